@@ -108,8 +108,8 @@ note_of row =
     ++ flat_map text_byte row.text ++ codes "\n"
 
 -- the notes of each row that fails, in the order of the rows
-abbrev pub notes_of : List Row → List ℕ
-notes_of rows = flat_map note_of (filter row_fails rows)
+abbrev pub failure_notes : List Row → List ℕ
+failure_notes rows = flat_map note_of (filter row_fails rows)
 
 -- Lines.
 

@@ -1,6 +1,6 @@
 //! The failures of a run as notes that a build server reads in its log.
 //!
-//! - `escaping`: bytes that cannot stand as they are
+//! - `message_escapes`: bytes that cannot stand as they are
 //! - `spots`: where a test failed, by the text that it wrote
 //! - `notes`: the lines; `laws`: each is one line
 //!
@@ -8,8 +8,8 @@
 //! rows stand in a room above it, `fold_rows`.
 #![tactic(auto)]
 
-mod escaping;
 mod laws;
+mod message_escapes;
 mod notes;
 mod spots;
 

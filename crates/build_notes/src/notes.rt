@@ -6,7 +6,7 @@ ghost use Rattle.outcome_fold.specs.Answers.{row_fails};
 ghost use Rattle.build_notes.specs.Notes as spec;
 ghost use Rattle.build_notes.specs.Seen.{shown_spot};
 
-use crate::escaping::{put_text, put_value};
+use crate::message_escapes::{put_text, put_value};
 use crate::spots::{Spot, last_spot};
 use outcome_fold::Row;
 use sub_number::NoMemory;
@@ -46,7 +46,7 @@ fn put_note(row: &Row, text: &mut Vec<u8>) -> Result<(), NoMemory>
 
 // The notes of those that fail.
 fn put_notes(rows: &[Row], text: &mut Vec<u8>) -> Result<(), NoMemory>
-    ensures ok { OnOk result (text.new.items ≡ text.old.items ++ spec.notes_of rows.now) }
+    ensures ok { OnOk result (text.new.items ≡ text.old.items ++ spec.failure_notes rows.now) }
     ensures kept { take (length text.old.items) text.new.items ≡ text.old.items }
 {
     for row in rows {
@@ -61,7 +61,7 @@ fn put_notes(rows: &[Row], text: &mut Vec<u8>) -> Result<(), NoMemory>
 /// that its text tells of, of a file of the project where it tells of one (docs/FORMATS.md, "Notes of failures"). No id and no
 /// text begins another line.
 pub fn notes_text(rows: &[Row], out: &mut Vec<u8>) -> Result<(), NoMemory>
-    ensures ok { OnOk result (out.new.items ≡ out.old.items ++ spec.notes_of rows.now) }
+    ensures ok { OnOk result (out.new.items ≡ out.old.items ++ spec.failure_notes rows.now) }
     ensures err { OnErr result (out.new.items ≡ out.old.items) }
 {
     let before = out.len();

@@ -7,7 +7,7 @@ use packet_codec::{Status, Tags};
 use std::alloc::Global;
 use sub_number::{Bytes, IdList, Text};
 use suite_causes::{
-    SearchFault, Suspect, can_hand_ids, cause_line, count_before, search, suspects_of,
+    SearchFault, Suspect, can_hand_ids, cause_line, count_before, search_cause, suspects_of,
 };
 use testr_conf::{Conf, JobFault, Key};
 use trial_events::{says, spelled, text};
@@ -76,7 +76,7 @@ fn told(
 ) -> Option<Result<Vec<u8>, SearchFault>> {
     can_hand_ids(alloc, conf).ok()?;
     let count = count_before(ids, test);
-    match search(alloc, conf, spawner, ids, count, test) {
+    match search_cause(alloc, conf, spawner, ids, count, test) {
         Ok(found) => Some(Ok(joined(alloc, &cause_line(test, ids, count, found))?)),
         Err(fault) => Some(Err(fault)),
     }

@@ -14,15 +14,15 @@ use Rattle.run_shelf.specs.Outcomes.{IsRunPart}
 use Rattle.run_shelf.specs.Repository.{Run, run_at}
 use Rattle.run_shelf.proofs.ReadingLemmas.{same_state, stays_stays}
 use Rattle.run_shelf.proofs.RunLemmas.{taken_before}
-use Rattle.command_steps.specs.Copying.{read_failed, write_failed, Counts, HasBytesAt, BeginsAt, Copies, GoesOnAt, HasPieceAt, CopiesPiece}
+use Rattle.command_steps.specs.Copying.{read_failed, write_failed, Counts, HasBytesAt, BeginsAt, CopiesRun, GoesOnAt, HasPieceAt, CopiesPiece}
 use Rattle.command_steps.specs.Outside.{Shown, shown}
 use Rattle.command_steps.specs.Says.{SaysBytes, SaysOfFolder}
 use Rattle.testr_words.specs.declared.command.Question.TheVariants.{Last}
 use Rattle.command_steps.specs.declared.answer.Verdict.TheVariants.{Passed}
-use Rattle.command_steps.specs.declared.reporting.PrintFault.{PrintFault}
-use Rattle.command_steps.specs.declared.copying.CopyFault.{CopyFault}
-use Rattle.command_steps.specs.declared.copying.CopyFault.TheVariants.{Read, Write}
-use Rattle.command_steps.specs.declared.told.TellFault.TheVariants.{NoMemory, Shelf as ReadFailed}
+use Rattle.command_steps.specs.declared.run_report.PrintFault.{PrintFault}
+use Rattle.command_steps.specs.declared.run_copy.CopyFault.{CopyFault}
+use Rattle.command_steps.specs.declared.run_copy.CopyFault.TheVariants.{Read, Write}
+use Rattle.command_steps.specs.declared.question_answers.TellFault.TheVariants.{NoMemory, Shelf as ReadFailed}
 
 -- ---- lists
 
@@ -175,8 +175,8 @@ module _ (number place room : ℕ) (folder left : Seen Folder) (out : Seen (List
 
 -- ---- one piece after another
 
-pub copies_as : {number other : ℕ} {a b : Shown} {result : Result (Unit {0}) CopyFault} → number ≡ other → Copies number a b result → Copies other a b result
-copies_as {a = a} {b = b} {result = result} is copies = subst (λ (n : ℕ). Copies n a b result) is copies
+pub copies_as : {number other : ℕ} {a b : Shown} {result : Result (Unit {0}) CopyFault} → number ≡ other → CopiesRun number a b result → CopiesRun other a b result
+copies_as {a = a} {b = b} {result = result} is copies = subst (λ (n : ℕ). CopiesRun n a b result) is copies
 
 -- the bytes of the run up to that place were copied, and nothing failed
 pub record CopiedTo (number place : ℕ) (before after : Shown) : Type 0 where
@@ -240,7 +240,7 @@ module _ (number place : ℕ) (a m : Shown) (so_far : CopiedTo number place a m)
       }
 
       -- the last piece
-      pub copied_whole : count < room → Copies number a b (Ok tt)
+      pub copied_whole : count < room → CopiesRun number a b (Ok tt)
       copied_whole less = record {
         bytes = so_far.bytes ++ piece.bytes;
         taken = taken_behind (Ok count) piece;
@@ -251,10 +251,10 @@ module _ (number place : ℕ) (a m : Shown) (so_far : CopiedTo number place a m)
       }
 
     -- a piece that was not copied whole
-    pub copied_not : (result : Result (Unit {0}) CopyFault) (fault : CopyFault) → IsErrAnd result (λ f. f ≡ fault) → CopiesPiece number place room m b (Err fault) → Copies number a b result
+    pub copied_not : (result : Result (Unit {0}) CopyFault) (fault : CopyFault) → IsErrAnd result (λ f. f ≡ fault) → CopiesPiece number place room m b (Err fault) → CopiesRun number a b result
     copied_not result fault refused piece =
         let p = err_from_is_err_and result refused in
-        subst (Copies number a b) (sym (p.1 ∙ ap Err p.2)) (record {
+        subst (CopiesRun number a b) (sym (p.1 ∙ ap Err p.2)) (record {
           bytes = so_far.bytes ++ piece.bytes;
           taken = taken_behind (Err fault) piece;
           front = front_behind (Err fault) piece;
@@ -271,7 +271,7 @@ module _ (number place : ℕ) (a m : Shown) (so_far : CopiedTo number place a m)
         same_write (Write e) = refl
 
   -- no folder has such a run
-  pub copied_on : Copies number a m (Err (Read NoMemory))
+  pub copied_on : CopiesRun number a m (Err (Read NoMemory))
   copied_on = record {
     bytes = so_far.bytes;
     taken = so_far.taken;

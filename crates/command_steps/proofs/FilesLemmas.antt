@@ -11,6 +11,7 @@ use Rattle.edge_io.specs.Steps.{Goes, Grown}
 use Rattle.edge_io.specs.Sites.{Finds, FitsIn, GivesPart}
 use Rattle.edge_io.specs.declared.site.Found.{Found}
 use Rattle.edge_io.specs.declared.site.Found.TheVariants.{Read}
+use Rattle.edge_io.specs.Limits.{most_bytes}
 use Rattle.packet_codec.specs.Grammar.{AreBytes}
 use Rattle.packet_codec.specs.Canonical.{canonical}
 use Rattle.packet_codec.specs.declared.event.Event.{Event}
@@ -22,12 +23,12 @@ use Rattle.stream_reader.proofs.FrontLemmas.{are_both}
 use Rattle.worker_lane.specs.Recorded.{HasRecorded, IsRecorded}
 use Rattle.worker_lane.specs.Scribing.{Scribing, finished, Recording, HasNone}
 use Rattle.worker_lane.proofs.RecordingLemmas.{recording_ended, recording_whole}
-use Rattle.command_steps.specs.Files.{AreFiles, HasRecordedInTurn, AreFrontOf, IsFile, NoneFailed, RecordsFilePieces, RecordsFile, RecordsInTurn, RecordsSources, HearsSources, HasFilesCause}
+use Rattle.command_steps.specs.Files.{AreFiles, HasRecordedInTurn, AreFrontOf, IsFile, NoneFailedFiling, RecordsFilePieces, RecordsFile, RecordsInTurn, RecordsSources, HearsSources, HasFilesCause}
 use Rattle.command_steps.specs.Hearing.{HearsMore}
 use Rattle.command_steps.specs.Outside.{Filed, filed, fed, work}
-use Rattle.command_steps.specs.Recording.{most_bytes, WritesPackets, RecordsBytes, HasRecordCause}
-use Rattle.command_steps.specs.declared.recording.RecordFault.{RecordFault}
-use Rattle.command_steps.specs.declared.recording.RecordFault.TheVariants.{NoMemory}
+use Rattle.command_steps.specs.Recording.{WritesPackets, RecordsBytes, HasRecordCause}
+use Rattle.command_steps.specs.declared.input_recorder.RecordFault.{RecordFault}
+use Rattle.command_steps.specs.declared.input_recorder.RecordFault.TheVariants.{NoMemory}
 use Rattle.command_steps.proofs.HearLemmas.{hears_then}
 
 -- ---- the bytes of one file
@@ -84,7 +85,7 @@ front_end name told now bytes buf place count found same size is none some front
 
 -- ---- faults
 
-pub counts_then : (a m b : Filed) → NoneFailed a m → NoneFailed m b → NoneFailed a b
+pub counts_then : (a m b : Filed) → NoneFailedFiling a m → NoneFailedFiling m b → NoneFailedFiling a b
 counts_then a m b first second = record { folder = second.folder ∙ first.folder; site = second.site ∙ first.site }
 
 pub caused_in : {A : Type 0} (names : List (List ℕ)) (before after : Filed) (result : Result A RecordFault) (fault : RecordFault) → IsErrAnd result (λ given. given ≡ fault) → HasFilesCause names before after fault → IfErr result (HasFilesCause names before after)

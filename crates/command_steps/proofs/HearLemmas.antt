@@ -6,7 +6,7 @@ use Rattle.packet_codec.specs.Lanes.{joined}
 use Rattle.packet_codec.specs.Packets.{ArePackets}
 use Rattle.packet_codec.specs.declared.event.Event.{Event}
 use Rattle.suite_run.specs.Aloud.{ArePieces}
-use Rattle.command_steps.specs.Hearing.{HasHeard, HearsMore, Stops, MayStop}
+use Rattle.command_steps.specs.Hearing.{HasHeard, HearsMore, StopsHearing, MayStop}
 
 -- a piece more
 pieces_more : (groups : List (List Event)) (pieces : List (List ℕ)) (group : List Event) (piece : List ℕ) → ArePieces groups pieces → ArePieces (group ∷ []) (piece ∷ []) → ArePieces (groups ++ group ∷ []) (pieces ++ piece ∷ [])
@@ -39,7 +39,7 @@ module _ {L : Type 0} (heard : L → L → List (List ℕ) → Type 0) where
   module _ (keeps : L → L → List (List ℕ) → Type 0) where
     -- ---- at each exit
 
-    stops_heard : (begun now : L) (bytes : List ℕ) → HasHeard heard begun now bytes → Stops heard keeps begun now
+    stops_heard : (begun now : L) (bytes : List ℕ) → HasHeard heard begun now bytes → StopsHearing heard keeps begun now
     stops_heard begun now bytes has = record { groups = has.groups; pieces = has.pieces; are_pieces = has.are_pieces; holds = inl has.holds }
 
     pub stops_same : (now : L) → MayStop heard keeps now now

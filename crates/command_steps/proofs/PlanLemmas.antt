@@ -7,16 +7,16 @@ use Rattle.suite_plan.specs.Choosing.{Ids}
 use Rattle.testr_conf.specs.Settings.{Settings}
 use Rattle.testr_conf.specs.declared.fault.JobFault.{JobFault}
 use Rattle.testr_conf.specs.declared.fault.JobFault.TheVariants.{NoMemory}
-use Rattle.command_steps.specs.Selecting.{Times, Planned, Divides, HandsIds, NamesIds, shares_of_ids}
+use Rattle.command_steps.specs.Selecting.{TimesById, Planned, Divides, HandsIds, NamesIds, shares_of_ids}
 use Rattle.command_steps.specs.Steps.{Gives}
 use Rattle.command_steps.specs.declared.answer.Refusal.{Refusal}
-use Rattle.command_steps.specs.declared.planning.LongId.{LongId}
+use Rattle.command_steps.specs.declared.work_plan.LongId.{LongId}
 use Rattle.suite_run.specs.NoneLost.{AreAllShort}
 use Rattle.worker_lane.specs.Lost.{longest_id}
 use Rattle.worker_lane.specs.Sought.{AreShort}
-use Rattle.command_steps.specs.declared.selecting.Selected.{Selected}
+use Rattle.command_steps.specs.declared.test_selection.Selected.{Selected}
 
-pub divides_as : (given groups : Option (List ℕ)) (times : Option Times) (selected : Selected) (shares : Option (List Ids)) → given ≡ groups → shares ≡ shares_of_ids given times selected → Divides groups times selected (Ok shares)
+pub divides_as : (given groups : Option (List ℕ)) (times : Option TimesById) (selected : Selected) (shares : Option (List Ids)) → given ≡ groups → shares ≡ shares_of_ids given times selected → Divides groups times selected (Ok shares)
 divides_as given groups times selected shares is holds = record { shares = subst (λ (g : Option (List ℕ)). shares ≡ shares_of_ids g times selected) is holds }
 
 -- no probe is asked for

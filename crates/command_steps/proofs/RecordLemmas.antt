@@ -10,6 +10,7 @@ use Rattle.edge_io.specs.Causes.{Rose}
 use Rattle.edge_io.specs.Disk.{Folder}
 use Rattle.edge_io.specs.Seen.{Seen}
 use Rattle.edge_io.specs.Steps.{Goes, Grown}
+use Rattle.edge_io.specs.Limits.{most_bytes}
 use Rattle.packet_codec.specs.Canonical.{IsEvent, Fits, canonical}
 use Rattle.packet_codec.specs.Grammar.{AreBytes}
 use Rattle.packet_codec.specs.Packets.{ArePackets}
@@ -20,9 +21,9 @@ use Rattle.worker_lane.specs.Scribing.{Scribing, finished, Recording, GivesOne, 
 use Rattle.worker_lane.proofs.RecordingLemmas.{packets_none, recording_ended, recording_whole}
 use Rattle.command_steps.specs.Hearing.{HearsMore}
 use Rattle.command_steps.specs.Outside.{Fed, fed}
-use Rattle.command_steps.specs.Recording.{most_bytes, ReadsFew, ReadsTooMany, NoneFailed, WritesPackets, HasRecordCause, HasWriteCause, RecordsInput, RecordsPieces, RecordsBytes}
-use Rattle.command_steps.specs.declared.recording.RecordFault.{RecordFault}
-use Rattle.command_steps.specs.declared.recording.RecordFault.TheVariants.{Shelf, Input, TooLong, Site, NoFile, FileTooLong, NoMemory}
+use Rattle.command_steps.specs.Recording.{ReadsFew, ReadsTooMany, NoneFailed, WritesPackets, HasRecordCause, HasWriteCause, RecordsInput, RecordsPieces, RecordsBytes}
+use Rattle.command_steps.specs.declared.input_recorder.RecordFault.{RecordFault}
+use Rattle.command_steps.specs.declared.input_recorder.RecordFault.TheVariants.{Shelf, Input, TooLong, Site, NoFile, FileTooLong, NoMemory}
 use Rattle.command_steps.proofs.HearLemmas.{hears_then}
 
 -- ---- packets that are written

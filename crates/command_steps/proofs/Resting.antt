@@ -62,37 +62,37 @@ passes_leaves P s t passes leaves =
 -- ---- resting
 
 -- reads of the folder give the same files, and a stop at each moment leaves what one before might have left
-pub record Rests (s t : Folder) : Type 0 where
+pub record KeepsReads (s t : Folder) : Type 0 where
   pub files : KeepsFiles s t
   pub old : PassesOld s t
 
 -- what a stop leaves then, one before might have left
-pub rests_images : (s t : Folder) → Rests s t → LeavesOnly (IsImage s.disk) t.disk
+pub rests_images : (s t : Folder) → KeepsReads s t → LeavesOnly (IsImage s.disk) t.disk
 rests_images s t rests = passes_leaves (IsImage s.disk) s t rests.old (λ image left. left)
 
-stays_rests : (s t : Folder) → Stays s t → Rests s t
+stays_rests : (s t : Folder) → Stays s t → KeepsReads s t
 stays_rests s t is = record {
   files = ap (λ (f : Folder). f.disk.published) is;
   old = passes_same (IsImage s.disk) s t (ap (λ (f : Folder). f.disk) is) (ap (λ (f : Folder). f.past) is);
 }
 
-rests_after : (s m t : Folder) → Rests s m → Rests m t → Rests s t
+rests_after : (s m t : Folder) → KeepsReads s m → KeepsReads m t → KeepsReads s t
 rests_after s m t first second = record {
   files = second.files ∙ first.files;
   old = passes_then (IsImage s.disk) s m t first.old (passes_weaker (IsImage m.disk) (IsImage s.disk) (rests_images s m first) m t second.old);
 }
 
-pub rests_same : (a b : Option Folder) → b ≡ a → Goes a b Rests
+pub rests_same : (a b : Option Folder) → b ≡ a → Goes a b KeepsReads
 rests_same None None same = tt
 rests_same None (Some t) same = cc
 rests_same (Some s) None same = cc
 rests_same (Some s) (Some t) same = stays_rests s t cc
 
-pub rests_then : (a b c : Option Folder) → Goes a b Rests → Goes b c Rests → Goes a c Rests
-rests_then a b c first second = goes_then a b c Rests Rests Rests first second rests_after
+pub rests_then : (a b c : Option Folder) → Goes a b KeepsReads → Goes b c KeepsReads → Goes a c KeepsReads
+rests_then a b c first second = goes_then a b c KeepsReads KeepsReads KeepsReads first second rests_after
 
-pub rests_of_stays : (a b : Option Folder) → Goes a b Stays → Goes a b Rests
-rests_of_stays a b stays = goes_weaker a b Stays Rests stays stays_rests
+pub rests_of_stays : (a b : Option Folder) → Goes a b Stays → Goes a b KeepsReads
+rests_of_stays a b stays = goes_weaker a b Stays KeepsReads stays stays_rests
 
 pub goes_both : {S : Type 0} (a b : Option S) (R T Q : S → S → Type 0) → Goes a b R → Goes a b T → ((s t : S) → R s t → T s t → Q s t) → Goes a b Q
 goes_both None None R T Q first second f = tt
@@ -131,20 +131,20 @@ open_fails_keeps (open_fault.Gap number) s t fails = settled_keeps s t fails.1
 open_fails_keeps (open_fault.Shelf call) s t fails = fails_keeps call s t fails
 open_fails_keeps open_fault.NoMemory s t fails = settled_keeps s t fails
 
-pub open_rests : (a b : Seen Folder) (result : Result Found OpenFault) → Opens a b result → Goes a.told b.told Rests
-open_rests a b (Ok found) opens = goes_both a.told b.told (Surveys (kinds_of found)) PassesOld Rests opens.found opens.any_moment (λ s t survey old. record { files = settled_keeps s t survey.settled; old = old })
-open_rests a b (Err fault) opens = goes_both a.told b.told (OpenFails fault) PassesOld Rests opens.refused opens.any_moment (λ s t fails old. record { files = open_fails_keeps fault s t fails; old = old })
+pub open_rests : (a b : Seen Folder) (result : Result Found OpenFault) → Opens a b result → Goes a.told b.told KeepsReads
+open_rests a b (Ok found) opens = goes_both a.told b.told (Surveys (kinds_of found)) PassesOld KeepsReads opens.found opens.any_moment (λ s t survey old. record { files = settled_keeps s t survey.settled; old = old })
+open_rests a b (Err fault) opens = goes_both a.told b.told (OpenFails fault) PassesOld KeepsReads opens.refused opens.any_moment (λ s t fails old. record { files = open_fails_keeps fault s t fails; old = old })
 
 -- ---- the draft
 
-pub same_rests : (s t : Folder) → SameButDraft s t → Rests s t
+pub same_rests : (s t : Folder) → SameButDraft s t → KeepsReads s t
 same_rests s t same = record {
   files = ap (λ (d : Disk). d.published) same.disk;
   old = passes_same (IsImage s.disk) s t same.disk same.past;
 }
 
-pub rests_of_same : (a b : Option Folder) → Goes a b SameButDraft → Goes a b Rests
-rests_of_same a b same = goes_weaker a b SameButDraft Rests same same_rests
+pub rests_of_same : (a b : Option Folder) → Goes a b SameButDraft → Goes a b KeepsReads
+rests_of_same a b same = goes_weaker a b SameButDraft KeepsReads same same_rests
 
 pub same_at_first : (a : Option Folder) → Goes a a SameButDraft
 same_at_first None = tt
@@ -159,7 +159,7 @@ opened_same a b opened = goes_weaker a b Opened SameButDraft opened (λ s t is. 
 dropped_same : (a b : Option Folder) → Goes a b Dropped → Goes a b SameButDraft
 dropped_same a b dropped = goes_weaker a b Dropped SameButDraft dropped (λ s t is. record { disk = ap (λ (f : Folder). f.disk) is; past = ap (λ (f : Folder). f.past) is })
 
-pub begin_rests : (a b : Seen Folder) (result : Result (Unit {0}) KeepFault) → Begins a b result → Goes a.told b.told Rests
+pub begin_rests : (a b : Seen Folder) (result : Result (Unit {0}) KeepFault) → Begins a b result → Goes a.told b.told KeepsReads
 begin_rests a b (Ok done) begins = rests_of_same a.told b.told (opened_same a.told b.told begins.begun)
 begin_rests a b (Err fault) begins = rests_of_same a.told b.told (dropped_same a.told b.told begins.not_begun)
 

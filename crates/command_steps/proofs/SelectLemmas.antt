@@ -9,7 +9,7 @@ use Rattle.suite_plan.specs.Choosing.{Ids, base_ids, chosen_ids, with_further}
 use Rattle.suite_plan.specs.Processors.{CountsProcessors}
 use Rattle.suite_plan.specs.declared.picks.FurtherPicks.{FurtherPicks}
 use Rattle.suite_plan.specs.declared.picks.Picks.{Picks}
-use Rattle.suite_plan.specs.declared.sharing.TheConstants.{MOST_WORKERS}
+use Rattle.suite_plan.specs.declared.worker_shares.TheConstants.{MOST_WORKERS}
 use Rattle.command_steps.specs.Outside.{Work, work_site}
 use Rattle.command_steps.specs.Perhaps.{when, Perhaps, refused}
 use Rattle.command_steps.specs.Selecting.{Chooses, CountsWorkers, UsesAsked, UsesCalled}

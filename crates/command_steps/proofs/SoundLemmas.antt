@@ -19,24 +19,24 @@ use Rattle.run_shelf.specs.Holds.{FitsFolder}
 use Rattle.run_shelf.specs.Images.{HasRunBeside, KeepsRun, PassesRun}
 use Rattle.run_shelf.specs.Outcomes.{Surveys}
 use Rattle.run_shelf.specs.Repository.{Run, run_at, most_runs, base_of, Shows, IsRepository, run_of}
-use Rattle.run_shelf.specs.Sides.{side_name, SameButSides, KeepsButSides, PassesButSides}
-use Rattle.run_shelf.specs.declared.side.Side.TheVariants.{Failing, Times}
+use Rattle.run_shelf.specs.Sides.{cache_file_name, SameButCaches, KeepsButCaches, PassesButCaches}
+use Rattle.run_shelf.specs.declared.cache_file.CacheFile.TheVariants.{Failing, Times}
 use Rattle.run_shelf.proofs.Joining.{at_rest_images}
 use Rattle.run_shelf.proofs.RunLemmas.{last_item, put_other, base_behind, base_beside_run}
 use Rattle.run_shelf.proofs.SameLemmas.{base_same, same_itself, shows_still, repository_still}
 use Rattle.run_shelf.proofs.ShowsLemmas.{shown}
 use Rattle.command_steps.specs.Refreshing.{Refreshes, HoldsCaches, BringsCaches}
 use Rattle.command_steps.specs.Runs.{HasRunAndCaches, KeepsRepository, run_bytes, AddsRun}
-use Rattle.command_steps.specs.declared.told.TellFault.{TellFault}
-use Rattle.command_steps.proofs.Resting.{Rests, rests_images, passes_leaves, goes_both, surveyed_fits}
+use Rattle.command_steps.specs.declared.question_answers.TellFault.{TellFault}
+use Rattle.command_steps.proofs.Resting.{KeepsReads, rests_images, passes_leaves, goes_both, surveyed_fits}
 use Rattle.packet_codec.specs.declared.event.Event.{Event}
 
 -- ---- one step after another
 
-pub rests_sound : (s t : Folder) → Rests s t → KeepsSound s t
+pub rests_sound : (s t : Folder) → KeepsReads s t → KeepsSound s t
 rests_sound s t rests sound = passes_weaker (IsImage s.disk) IsSound sound s t rests.old
 
-pub rests_repository : (s t : Folder) → Rests s t → KeepsRepository s t
+pub rests_repository : (s t : Folder) → KeepsReads s t → KeepsRepository s t
 rests_repository s t rests repository = subst IsRepository (sym rests.files) repository
 
 pub sound_then : (s m t : Folder) → KeepsSound s m → KeepsSound m t → KeepsSound s t
@@ -53,13 +53,13 @@ pub record IsCalm (s : Folder) : Type 0 where
 fits_calm : (kinds : List Bool) (s : Folder) → FitsFolder kinds s → IsCalm s
 fits_calm kinds s fits = record { repository = fits.repository; only = at_rest_images s fits.rest }
 
-pub rests_calm : (s t : Folder) → IsCalm s → Rests s t → IsCalm t
+pub rests_calm : (s t : Folder) → IsCalm s → KeepsReads s t → IsCalm t
 rests_calm s t calm rests = record {
   repository = subst IsRepository (sym rests.files) calm.repository;
   only = λ image left. calm.only image (rests_images s t rests image left) ∙ sym rests.files;
 }
 
-pub calm_after : (a b : Option Folder) → IfSome a IsCalm → Goes a b Rests → IfSome b IsCalm
+pub calm_after : (a b : Option Folder) → IfSome a IsCalm → Goes a b KeepsReads → IfSome b IsCalm
 calm_after None None calm rests = tt
 calm_after None (Some t) calm rests = absurd rests
 calm_after (Some s) None calm rests = absurd rests
@@ -78,20 +78,20 @@ calm_counts s calm = inl (sym (calm.only s.disk.stable (inl refl)))
 
 -- ---- what the caches hold that were put
 
-names_differ : side_name Failing ≡ side_name Times → ⊥
+names_differ : cache_file_name Failing ≡ cache_file_name Times → ⊥
 names_differ same = omega (arith, ap (λ (l : List ℕ). get_or l 0 0) same)
 
-rows_still : (files image : Files) (entries : List RunRows) → SameButSides files image → ShowRows files entries → ShowRows image entries
+rows_still : (files image : Files) (entries : List RunRows) → SameButCaches files image → ShowRows files entries → ShowRows image entries
 rows_still files image entries but has = record { runs = has.runs; shown = shows_still files image but has.runs has.shown; are = has.are }
 
 -- no cache is a part of the base
-failing_still : (files image : Files) (ids : List (List ℕ)) (entries : List RunRows) → SameButSides files image → ids ≡ failing_after (base_of files) entries → ids ≡ failing_after (base_of image) entries
+failing_still : (files image : Files) (ids : List (List ℕ)) (entries : List RunRows) → SameButCaches files image → ids ≡ failing_after (base_of files) entries → ids ≡ failing_after (base_of image) entries
 failing_still files image ids entries but are = are ∙ ap (λ (b : Base). failing_after b entries) (sym (base_same files image but))
 
-holds : (s t : Folder) → KeepsButSides s t → PutsCaches s t → HoldsCaches t
+holds : (s t : Folder) → KeepsButCaches s t → PutsCaches s t → HoldsCaches t
 holds s t but has =
-    let first : Files = put s.disk.published (side_name Failing) has.failing_bytes in
-    let files : t.disk.published ≡ put first (side_name Times) has.times_bytes = ap (λ (d : Disk). d.published) has.disk in
+    let first : Files = put s.disk.published (cache_file_name Failing) has.failing_bytes in
+    let files : t.disk.published ≡ put first (cache_file_name Times) has.times_bytes = ap (λ (d : Disk). d.published) has.disk in
     record {
       runs = has.runs;
       shown = shows_still s.disk.published t.disk.published but has.runs has.shown;
@@ -99,13 +99,13 @@ holds s t but has =
         ids = has.ids;
         failing = record {
           bytes = has.failing_bytes;
-          file = ap (λ (f : Files). f (side_name Failing)) files ∙ put_other first (side_name Times) has.times_bytes (side_name Failing) names_differ ∙ put_same s.disk.published (side_name Failing) has.failing_bytes;
+          file = ap (λ (f : Files). f (cache_file_name Failing)) files ∙ put_other first (cache_file_name Times) has.times_bytes (cache_file_name Failing) names_differ ∙ put_same s.disk.published (cache_file_name Failing) has.failing_bytes;
           form = has.failing;
         };
         times = has.times;
         timed = record {
           bytes = has.times_bytes;
-          file = ap (λ (f : Files). f (side_name Times)) files ∙ put_same first (side_name Times) has.times_bytes;
+          file = ap (λ (f : Files). f (cache_file_name Times)) files ∙ put_same first (cache_file_name Times) has.times_bytes;
           form = has.timed;
         };
       };
@@ -148,7 +148,7 @@ module _ (number : ℕ) (run : Run) where
   left_by s image (inr beside) = inr (with_caches s.disk.published image beside)
 
   -- behind the run that was kept
-  behind : (s m : Folder) → KeepsRun number run s m → (image : Files) → IsImage m.disk image ⊎ SameButSides m.disk.published image → HasRunAndCaches s.disk.published number run image
+  behind : (s m : Folder) → KeepsRun number run s m → (image : Files) → IsImage m.disk image ⊎ SameButCaches m.disk.published image → HasRunAndCaches s.disk.published number run image
   behind s m kept image (inl left) = with_caches s.disk.published image (kept.lasts image left)
   behind s m kept image (inr same) = record { between = m.disk.published; beside = kept_beside number run s m kept; but = same }
 
@@ -175,7 +175,7 @@ module _ (number : ℕ) (run : Run) where
     repository = repository_named s t calm passes reads;
   }
 
-  pub rests_all : (s t : Folder) → IsCalm s → Rests s t → PassesAll number run s t
+  pub rests_all : (s t : Folder) → IsCalm s → KeepsReads s t → PassesAll number run s t
   rests_all s t calm rests = record {
     stops = passes_weaker (IsImage s.disk) (Left s) (λ image left. inl left) s t rests.old;
     sound = rests_sound s t rests;
@@ -208,20 +208,20 @@ module _ (number : ℕ) (run : Run) where
       }
 
   -- the run, and what the step of the caches did
-  refreshed_all : (rows : List Row) (s m t : Folder) → AreRowsOf run.bytes rows → IsCalm s → KeepsRun number run s m → PassesRun number run s m → KeepsButSides m t → PassesButSides m t → (HasNewRows number rows m → KeepsSound m t) → PassesAll number run s t
+  refreshed_all : (rows : List Row) (s m t : Folder) → AreRowsOf run.bytes rows → IsCalm s → KeepsRun number run s m → PassesRun number run s m → KeepsButCaches m t → PassesButCaches m t → (HasNewRows number rows m → KeepsSound m t) → PassesAll number run s t
   refreshed_all rows s m t are calm kept passes but sides sound =
       let beside = kept_beside number run s m kept in
       let run_stops = passes_weaker (λ image. IsImage s.disk image ⊎ HasRunBeside s.disk.published number run image) (Left s) (left_by s) s m passes in
       record {
-        stops = passes_then (Left s) s m t run_stops (passes_weaker (λ image. IsImage m.disk image ⊎ SameButSides m.disk.published image) (Left s) (λ image left. inr (behind s m kept image left)) m t sides);
+        stops = passes_then (Left s) s m t run_stops (passes_weaker (λ image. IsImage m.disk image ⊎ SameButCaches m.disk.published image) (Left s) (λ image left. inr (behind s m kept image left)) m t sides);
         sound = sound_then s m t (sound_run s m calm passes) (sound (new_at rows s m are calm kept));
         repository = repository_still m.disk.published t.disk.published but beside.repository;
       }
 
-  cached : (rows : List Row) (s m t : Folder) → AreRowsOf run.bytes rows → KeepsRun number run s m → KeepsButSides m t → PassesButSides m t → (HasNewRows number rows m → ReadsSound m → PutsCaches m t) → KeepsRunAndCaches number run s t
+  cached : (rows : List Row) (s m t : Folder) → AreRowsOf run.bytes rows → KeepsRun number run s m → KeepsButCaches m t → PassesButCaches m t → (HasNewRows number rows m → ReadsSound m → PutsCaches m t) → KeepsRunAndCaches number run s t
   cached rows s m t are kept but sides has = record {
     reads = behind s m kept t.disk.published (inr but);
-    lasts = λ image left. behind s m kept image (passes_leaves (λ i. IsImage m.disk i ⊎ SameButSides m.disk.published i) m t sides (λ i before. inl before) image left);
+    lasts = λ image left. behind s m kept image (passes_leaves (λ i. IsImage m.disk i ⊎ SameButCaches m.disk.published i) m t sides (λ i before. inl before) image left);
     fresh = λ calm sound.
         holds m t but (has (new_at rows s m are calm kept) (sound_beside s.disk.published m.disk.published number run (kept_beside number run s m kept) calm.repository sound));
   }
@@ -238,8 +238,8 @@ module _ (number : ℕ) (run : Run) where
         by (Some s) None calm reads passes = absurd passes
         by (Some s) (Some t) calm reads passes = named_all s t calm passes reads
 
-    pub goes_rested : IfSome a IsCalm → Goes a b Rests → Goes a b (PassesAll number run)
-    goes_rested calm quiet = goes_from a b IsCalm Rests (PassesAll number run) calm quiet rests_all
+    pub goes_rested : IfSome a IsCalm → Goes a b KeepsReads → Goes a b (PassesAll number run)
+    goes_rested calm quiet = goes_from a b IsCalm KeepsReads (PassesAll number run) calm quiet rests_all
 
   module _ (rows : List Row) (a : Option Folder) (b c : Seen Folder) (result : Result (Unit {0}) TellFault) (step : Refreshes number rows b c result) where
     pub goes_refreshed : AreRowsOf run.bytes rows → IfSome a IsCalm → Goes a b.told (KeepsRun number run) → Goes a b.told (PassesRun number run) → Goes a c.told (PassesAll number run)
@@ -247,22 +247,22 @@ module _ (number : ℕ) (run : Run) where
         let before : Goes a b.told (λ s m. IsCalm s × KeepsRun number run s m × PassesRun number run s m) =
         goes_from a b.told IsCalm (λ s m. KeepsRun number run s m × PassesRun number run s m) (λ s m. IsCalm s × KeepsRun number run s m × PassesRun number run s m) calm
         (goes_both a b.told (KeepsRun number run) (PassesRun number run) (λ s m. KeepsRun number run s m × PassesRun number run s m) kept passes (λ s m k p. (k, p))) (λ s m is both. (is, both.0, both.1)) in
-        let others : Goes b.told c.told (λ m t. KeepsButSides m t × PassesButSides m t) = goes_both b.told c.told KeepsButSides PassesButSides (λ m t. KeepsButSides m t × PassesButSides m t) step.others step.any_moment (λ m t p q. (p, q)) in
-        let after : Goes b.told c.told (λ m t. (KeepsButSides m t × PassesButSides m t) × (HasNewRows number rows m → KeepsSound m t)) =
-        goes_both b.told c.told (λ m t. KeepsButSides m t × PassesButSides m t) (λ m t. HasNewRows number rows m → KeepsSound m t) (λ m t. (KeepsButSides m t × PassesButSides m t) × (HasNewRows number rows m → KeepsSound m t)) others step.sound (λ m t p q. (p, q)) in
-        goes_then a b.told c.told (λ s m. IsCalm s × KeepsRun number run s m × PassesRun number run s m) (λ m t. (KeepsButSides m t × PassesButSides m t) × (HasNewRows number rows m → KeepsSound m t)) (PassesAll number run) before after (λ s m t first second. refreshed_all rows s m t are first.0 first.1 first.2 second.0.0 second.0.1 second.1)
+        let others : Goes b.told c.told (λ m t. KeepsButCaches m t × PassesButCaches m t) = goes_both b.told c.told KeepsButCaches PassesButCaches (λ m t. KeepsButCaches m t × PassesButCaches m t) step.others step.any_moment (λ m t p q. (p, q)) in
+        let after : Goes b.told c.told (λ m t. (KeepsButCaches m t × PassesButCaches m t) × (HasNewRows number rows m → KeepsSound m t)) =
+        goes_both b.told c.told (λ m t. KeepsButCaches m t × PassesButCaches m t) (λ m t. HasNewRows number rows m → KeepsSound m t) (λ m t. (KeepsButCaches m t × PassesButCaches m t) × (HasNewRows number rows m → KeepsSound m t)) others step.sound (λ m t p q. (p, q)) in
+        goes_then a b.told c.told (λ s m. IsCalm s × KeepsRun number run s m × PassesRun number run s m) (λ m t. (KeepsButCaches m t × PassesButCaches m t) × (HasNewRows number rows m → KeepsSound m t)) (PassesAll number run) before after (λ s m t first second. refreshed_all rows s m t are first.0 first.1 first.2 second.0.0 second.0.1 second.1)
 
   pub goes_cached : (rows : List Row) (a : Option Folder) (b c : Seen Folder) → Refreshes number rows b c (Ok tt) → AreRowsOf run.bytes rows → Goes a b.told (KeepsRun number run) → Goes a c.told (KeepsRunAndCaches number run)
   goes_cached rows a b c step are kept =
-      let others : Goes b.told c.told (λ m t. KeepsButSides m t × PassesButSides m t) = goes_both b.told c.told KeepsButSides PassesButSides (λ m t. KeepsButSides m t × PassesButSides m t) step.others step.any_moment (λ m t p q. (p, q)) in
-      let after : Goes b.told c.told (λ m t. (KeepsButSides m t × PassesButSides m t) × (HasNewRows number rows m → ReadsSound m → PutsCaches m t)) =
-      goes_both b.told c.told (λ m t. KeepsButSides m t × PassesButSides m t) (λ m t. HasNewRows number rows m → ReadsSound m → PutsCaches m t) (λ m t. (KeepsButSides m t × PassesButSides m t) × (HasNewRows number rows m → ReadsSound m → PutsCaches m t)) others step.refreshed (λ m t p q. (p, q)) in
-      goes_then a b.told c.told (KeepsRun number run) (λ m t. (KeepsButSides m t × PassesButSides m t) × (HasNewRows number rows m → ReadsSound m → PutsCaches m t)) (KeepsRunAndCaches number run) kept after (λ s m t first second. cached rows s m t are first second.0.0 second.0.1 second.1)
+      let others : Goes b.told c.told (λ m t. KeepsButCaches m t × PassesButCaches m t) = goes_both b.told c.told KeepsButCaches PassesButCaches (λ m t. KeepsButCaches m t × PassesButCaches m t) step.others step.any_moment (λ m t p q. (p, q)) in
+      let after : Goes b.told c.told (λ m t. (KeepsButCaches m t × PassesButCaches m t) × (HasNewRows number rows m → ReadsSound m → PutsCaches m t)) =
+      goes_both b.told c.told (λ m t. KeepsButCaches m t × PassesButCaches m t) (λ m t. HasNewRows number rows m → ReadsSound m → PutsCaches m t) (λ m t. (KeepsButCaches m t × PassesButCaches m t) × (HasNewRows number rows m → ReadsSound m → PutsCaches m t)) others step.refreshed (λ m t p q. (p, q)) in
+      goes_then a b.told c.told (KeepsRun number run) (λ m t. (KeepsButCaches m t × PassesButCaches m t) × (HasNewRows number rows m → ReadsSound m → PutsCaches m t)) (KeepsRunAndCaches number run) kept after (λ s m t first second. cached rows s m t are first second.0.0 second.0.1 second.1)
 
   -- a quiet part before it
-  pub fresh_through : (a b c : Option Folder) → Goes a b Rests → IfSome b IsCalm → Goes b c (KeepsRunAndCaches number run) → Goes a c BringsCaches
+  pub fresh_through : (a b c : Option Folder) → Goes a b KeepsReads → IfSome b IsCalm → Goes b c (KeepsRunAndCaches number run) → Goes a c BringsCaches
   fresh_through a b c quiet calm kept =
-      goes_then a b c Rests BringsCaches BringsCaches quiet
+      goes_then a b c KeepsReads BringsCaches BringsCaches quiet
       (goes_from b c IsCalm (KeepsRunAndCaches number run) BringsCaches calm kept (λ s t is keeps. keeps.fresh is))
       (λ s m t rests fresh sound. fresh (subst IsSound (sym rests.files) sound))
 

@@ -19,18 +19,18 @@ use Rattle.run_ledger.specs.Reading.{AreRowsOf}
 use Rattle.run_shelf.specs.Drafts.{SameButDraft}
 use Rattle.suite_run.specs.Aloud.{ArePieces, Hears, HearsSince, SaysSince, Sinks, voices}
 use Rattle.suite_run.specs.Summed.{GivesSums}
-use Rattle.suite_run.specs.declared.ear.Echo.{Echo}
-use Rattle.suite_run.specs.declared.ear.Shown.{Shown}
+use Rattle.suite_run.specs.declared.run_listener.Echo.{Echo}
+use Rattle.suite_run.specs.declared.run_listener.Shown.{Shown}
 use Rattle.suite_run.specs.declared.lines.Hearing.{Hearing}
 use Rattle.command_steps.specs.Files.{RecordsSources, HearsSources, summary_of}
-use Rattle.command_steps.specs.Hearing.{Answers, Closes, HasHeard, HearsMore, Stops}
+use Rattle.command_steps.specs.Hearing.{AnswersRecording, ClosesRecording, HasHeard, HearsMore, StopsHearing}
 use Rattle.command_steps.specs.Outside.{filed, work}
 use Rattle.command_steps.specs.Runs.{run_bytes}
 use Rattle.command_steps.specs.Speaking.{SaysPart, WritesAloud}
 use Rattle.command_steps.specs.declared.files.Recorded.{Recorded}
-use Rattle.command_steps.specs.declared.recording.RecordFault.{RecordFault}
-use Rattle.command_steps.specs.declared.recording.RecordFault.TheVariants.{NoMemory}
-use Rattle.command_steps.specs.declared.speaking.Silenced.{Silenced}
+use Rattle.command_steps.specs.declared.input_recorder.RecordFault.{RecordFault}
+use Rattle.command_steps.specs.declared.input_recorder.RecordFault.TheVariants.{NoMemory}
+use Rattle.command_steps.specs.declared.live_lines.Silenced.{Silenced}
 use Rattle.command_steps.proofs.FilesLemmas.{heard_run, heard_rows, heard_wanting, heard_fault}
 use Rattle.command_steps.proofs.SpeakLemmas.{all_front}
 
@@ -52,7 +52,7 @@ groups_are (g ∷ gs) (p ∷ ps) pairs =
     }
 
 -- memory was wanted as it was closed
-pub closes_fault : (hearing : Hearing) (result : Result Recorded RecordFault) → IsErrAnd result (λ given. given ≡ NoMemory) → Closes hearing result
+pub closes_fault : (hearing : Hearing) (result : Result Recorded RecordFault) → IsErrAnd result (λ given. given ≡ NoMemory) → ClosesRecording hearing result
 closes_fault hearing (Ok recorded) is = absurd is
 closes_fault hearing (Err fault) is = is
 
@@ -64,7 +64,7 @@ at_refusal P (Err fault) part = part
 -- the sinks were as they are before anything is said; then they were this, and these of them have failed
 module _ (shown : Shown) (echo : Echo) (same : shown.echo ≡ echo) (before after : Sinks) (silenced : Silenced) (begun : Hearing) (nothing : Hears [] shown begun [] before (voices before.errors before.out false false)) {L : Type 0} (heard : L → L → List (List ℕ) → Type 0) (first last : L) where
   -- of what was heard the first events were said
-  pub sources_part : (keeps : L → L → List (List ℕ) → Type 0) → Stops heard keeps first last → ((pieces : List (List ℕ)) → heard first last pieces ⊎ keeps first last pieces → SaysSince echo begun (voices before.errors before.out false false) (voices after.errors after.out silenced.errors silenced.out) pieces) → SaysPart shown before after silenced
+  pub sources_part : (keeps : L → L → List (List ℕ) → Type 0) → StopsHearing heard keeps first last → ((pieces : List (List ℕ)) → heard first last pieces ⊎ keeps first last pieces → SaysSince echo begun (voices before.errors before.out false false) (voices after.errors after.out silenced.errors silenced.out) pieces) → SaysPart shown before after silenced
   sources_part keeps stops said =
       let some = said stops.pieces stops.holds [] shown before stops.groups same nothing stops.are_pieces in
       let are : ArePacketsOf (joined stops.groups) (joined stops.pieces) = groups_are stops.groups stops.pieces stops.are_pieces in
@@ -91,10 +91,10 @@ module _ (shown : Shown) (echo : Echo) (same : shown.echo ≡ echo) (before afte
     rows_heard : AreRowsOf run (rows_of (joined has.groups))
     rows_heard = subst (λ (l : List ℕ). AreRowsOf l (rows_of (joined has.groups))) (sym are.packets) again
 
-    kept : (recorded : Recorded) → Closes hearing (Ok recorded) → Sums [] (rows_of (joined has.groups)) recorded.summary × (recorded.end.items ≡ live_end shown.live (length (rows_done (joined has.groups))) (open_rows (joined has.groups)))
+    kept : (recorded : Recorded) → ClosesRecording hearing (Ok recorded) → Sums [] (rows_of (joined has.groups)) recorded.summary × (recorded.end.items ≡ live_end shown.live (length (rows_done (joined has.groups))) (open_rows (joined has.groups)))
     kept recorded closes = closes [] shown.live (live_so_far shown.live (joined has.groups)) (joined has.groups) hears.gathers hears.none
 
-    sources_said : (old new : Option Folder) → Goes old new (Grown run) → (recorded : Recorded) → Closes hearing (Ok recorded) → WritesAloud shown [] old new before after silenced recorded.end.items recorded.summary
+    sources_said : (old new : Option Folder) → Goes old new (Grown run) → (recorded : Recorded) → ClosesRecording hearing (Ok recorded) → WritesAloud shown [] old new before after silenced recorded.end.items recorded.summary
     sources_said old new written recorded closes = record {
       events = joined has.groups;
       are_events = are.are_events;
@@ -122,7 +122,7 @@ module _ (shown : Shown) (echo : Echo) (same : shown.echo ≡ echo) (before afte
     all_heard : (done : Unit {0}) (given : Heard (Ok done)) → HasHeard heard first last (heard_run folder folder' site site' input input' (HearsMore heard first last) rests names done given).0
     all_heard done given = (heard_run folder folder' site site' input input' (HearsMore heard first last) rests names done given).1 first [] (heard_nothing heard first begins)
 
-    closed_step : (done : Unit {0}) → Heard (Ok done) → (result : Result Recorded RecordFault) → Closes hearing result → Step result
+    closed_step : (done : Unit {0}) → Heard (Ok done) → (result : Result Recorded RecordFault) → ClosesRecording hearing result → Step result
     closed_step done given (Ok recorded) closes =
         let has = all_heard done given in
         record {
@@ -143,14 +143,14 @@ module _ (shown : Shown) (echo : Echo) (same : shown.echo ≡ echo) (before afte
       holds = heard_fault folder folder' site site' input input' (HearsMore heard first last) rests names fault given;
     }
 
-    pub answer_step : (done : Result (Unit {0}) RecordFault) → Heard done → (answer : Result Recorded RecordFault) → Answers done hearing answer → Step answer
+    pub answer_step : (done : Result (Unit {0}) RecordFault) → Heard done → (answer : Result Recorded RecordFault) → AnswersRecording done hearing answer → Step answer
     answer_step (Ok done) given answer closes = closed_step done given answer closes
     answer_step (Err fault) given answer is = subst Step (sym is) (fault_step fault given)
 
-    closed_aloud : (done : Unit {0}) → Heard (Ok done) → (result : Result Recorded RecordFault) → Closes hearing result → Aloud result
+    closed_aloud : (done : Unit {0}) → Heard (Ok done) → (result : Result Recorded RecordFault) → ClosesRecording hearing result → Aloud result
     closed_aloud done given (Ok recorded) closes = sources_said _ (all_heard done given) hearing since folder.told folder'.told (heard_run folder folder' site site' input input' (HearsMore heard first last) rests names done given).2 recorded closes
     closed_aloud done given (Err fault) closes = tt
 
-    pub answer_aloud : (done : Result (Unit {0}) RecordFault) → Heard done → (answer : Result Recorded RecordFault) → Answers done hearing answer → Aloud answer
+    pub answer_aloud : (done : Result (Unit {0}) RecordFault) → Heard done → (answer : Result Recorded RecordFault) → AnswersRecording done hearing answer → Aloud answer
     answer_aloud (Ok done) given answer closes = closed_aloud done given answer closes
     answer_aloud (Err fault) given answer is = subst Aloud (sym is) tt

@@ -13,22 +13,22 @@ use Rattle.run_shelf.specs.Drafts.{OfDraft}
 use Rattle.run_shelf.specs.Holds.{FitsFolder}
 use Rattle.run_shelf.specs.Images.{KeepsRun}
 use Rattle.run_shelf.specs.Repository.{run_of}
-use Rattle.run_shelf.specs.Sides.{KeepsButSides}
+use Rattle.run_shelf.specs.Sides.{KeepsButCaches}
 use Rattle.run_shelf.proofs.DraftLemmas.{goes_writes, run_kept}
 use Rattle.run_shelf.proofs.SameLemmas.{shows_still}
 use Rattle.run_shelf.proofs.ShowsLemmas.{shown}
 use Rattle.speaker.specs.Speaking.{Takes}
 use Rattle.speaker.proofs.TakesLemmas.{is_new}
 use Rattle.suite_run.specs.Aloud.{Sinks, echoed, AddsAloud, BeganAloud}
-use Rattle.suite_run.specs.declared.ear.Echo.{Echo}
-use Rattle.suite_run.specs.declared.ear.Echo.TheVariants as echo
-use Rattle.suite_run.specs.declared.ear.Said.{Said}
-use Rattle.suite_run.specs.declared.ear.Shown.{Shown}
-use Rattle.suite_run.specs.declared.recording.LanesRefusal.{LanesRefusal}
+use Rattle.suite_run.specs.declared.run_listener.Echo.{Echo}
+use Rattle.suite_run.specs.declared.run_listener.Echo.TheVariants as echo
+use Rattle.suite_run.specs.declared.run_listener.Said.{Said}
+use Rattle.suite_run.specs.declared.run_listener.Shown.{Shown}
+use Rattle.suite_run.specs.declared.lane_recorder.LanesRefusal.{LanesRefusal}
 use Rattle.worker_lane.specs.declared.lot.Lot.{Lot}
 use Rattle.command_steps.specs.Runs.{run_bytes, with_run}
 use Rattle.command_steps.specs.Speaking.{WritesAloud, EndsWithRun, SaysPart, SaysRun, SaysSome}
-use Rattle.command_steps.specs.declared.speaking.Silenced.{Silenced}
+use Rattle.command_steps.specs.declared.live_lines.Silenced.{Silenced}
 use Rattle.command_steps.proofs.SoundLemmas.{kept_beside}
 
 -- so it is of the first of them
@@ -111,14 +111,14 @@ ends_with partial number events kinds (Some s) (Some t) fits kept =
     (all.0, (kept_beside number (run_of partial (run_bytes events)) s t kept).shows all.0 all.1)
 
 -- and still, whatever the caches are
-ends_still : (partial : Bool) (events : List Event) (k f : Option Folder) → Goes k f KeepsButSides → IfSome k (EndsWithRun partial events) → IfSome f (EndsWithRun partial events)
+ends_still : (partial : Bool) (events : List Event) (k f : Option Folder) → Goes k f KeepsButCaches → IfSome k (EndsWithRun partial events) → IfSome f (EndsWithRun partial events)
 ends_still partial events None None keeps ends = tt
 ends_still partial events None (Some t) keeps ends = absurd keeps
 ends_still partial events (Some s) None keeps ends = absurd keeps
 ends_still partial events (Some s) (Some t) keeps ends = (ends.0, shows_still s.disk.published t.disk.published keeps (with_run partial ends.0 events) ends.1)
 
 -- the run that was begun, recorded and kept, and behind it the caches, brought up to it or not
-pub run_shown : (partial : Bool) (number : ℕ) (kinds : List Bool) (events : List Event) (a b r k f : Option Folder) → IfSome a (FitsFolder kinds) → Goes a b Opened → Goes b r (Grown (run_bytes events)) → Goes r k (OfDraft (λ bytes. KeepsRun number (run_of partial bytes))) → Goes k f KeepsButSides → IfSome f (EndsWithRun partial events)
+pub run_shown : (partial : Bool) (number : ℕ) (kinds : List Bool) (events : List Event) (a b r k f : Option Folder) → IfSome a (FitsFolder kinds) → Goes a b Opened → Goes b r (Grown (run_bytes events)) → Goes r k (OfDraft (λ bytes. KeepsRun number (run_of partial bytes))) → Goes k f KeepsButCaches → IfSome f (EndsWithRun partial events)
 run_shown partial number kinds events a b r k f fits begun added kept others =
     let run : List ℕ = run_bytes events in
     ends_still partial events k f others (ends_with partial number events kinds a k fits (run_kept number partial run a r k (goes_writes a b r run begun added) kept))

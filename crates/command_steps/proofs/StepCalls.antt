@@ -19,27 +19,27 @@ use Rattle.run_shelf.specs.Holds.{FitsFolder}
 use Rattle.run_shelf.specs.Images.{KeepsRun}
 use Rattle.run_shelf.specs.Outcomes.{TicksUpTo}
 use Rattle.run_shelf.specs.Repository.{Run, run_of, run_name, most_runs, Shows}
-use Rattle.run_shelf.specs.Sides.{side_name}
-use Rattle.run_shelf.specs.declared.side.Side.{Side}
-use Rattle.run_shelf.specs.declared.side.Side.TheVariants.{Failing, Times}
+use Rattle.run_shelf.specs.Sides.{cache_file_name}
+use Rattle.run_shelf.specs.declared.cache_file.CacheFile.{CacheFile}
+use Rattle.run_shelf.specs.declared.cache_file.CacheFile.TheVariants.{Failing, Times}
 use Rattle.run_shelf.proofs.DraftLemmas.{goes_writes, run_kept}
 use Rattle.run_shelf.proofs.NameLemmas.{side_differs}
 use Rattle.run_shelf.proofs.RunLemmas.{put_other}
 use Rattle.run_shelf.proofs.ShowsLemmas.{shown, kinds_of_runs}
 use Rattle.suite_run.specs.Recording.{AddsByFew, AddsRows}
 use Rattle.worker_lane.specs.declared.lot.Lot.{Lot}
-use Rattle.command_steps.specs.Refusals.{refusal_code}
+use Rattle.command_steps.specs.Refusals.{refusal_exit_status}
 use Rattle.command_steps.specs.Refreshing.{Refreshes}
 use Rattle.command_steps.specs.Runs.{run_bytes, AddsRun}
 use Rattle.command_steps.specs.Calls.{IsCoveredTo, IsCovered, AsksByFew, StoresByFew}
 use Rattle.command_steps.specs.declared.answer.Refusal.{Refusal}
 use Rattle.command_steps.specs.declared.answer.Refusal.TheVariants.{Refresh, Start, Lanes}
-use Rattle.suite_run.specs.declared.recording.LanesRefusal.{LanesRefusal}
-use Rattle.suite_run.specs.declared.recording.LanesRefusal.TheVariants as lanes
-use Rattle.suite_run.specs.declared.starting.StartRefusal.{StartRefusal}
-use Rattle.suite_run.specs.declared.starting.StartRefusal.TheVariants as start
-use Rattle.command_steps.specs.declared.told.TellFault.{TellFault}
-use Rattle.command_steps.specs.declared.told.TellFault.TheVariants as tell_fault
+use Rattle.suite_run.specs.declared.lane_recorder.LanesRefusal.{LanesRefusal}
+use Rattle.suite_run.specs.declared.lane_recorder.LanesRefusal.TheVariants as lanes
+use Rattle.suite_run.specs.declared.lane_starter.StartRefusal.{StartRefusal}
+use Rattle.suite_run.specs.declared.lane_starter.StartRefusal.TheVariants as start
+use Rattle.command_steps.specs.declared.question_answers.TellFault.{TellFault}
+use Rattle.command_steps.specs.declared.question_answers.TellFault.TheVariants as tell_fault
 use Rattle.command_steps.proofs.SoundLemmas.{adds_run, KeepsRunAndCaches, goes_cached}
 
 -- ---- asking
@@ -124,9 +124,9 @@ stored_run partial number rows rests a b r k f x y begun recorded kept refreshed
 held_same : (number : ℕ) (s t : Folder) → t.disk ≡ s.disk → HoldBoth number s → HoldBoth number t
 held_same number s t same held = record {
   ids = held.ids;
-  failing = record { bytes = held.failing.bytes; file = ap (λ (d : Disk). d.published (side_name Failing)) same ∙ held.failing.file; form = held.failing.form };
+  failing = record { bytes = held.failing.bytes; file = ap (λ (d : Disk). d.published (cache_file_name Failing)) same ∙ held.failing.file; form = held.failing.form };
   times = held.times;
-  timed = record { bytes = held.timed.bytes; file = ap (λ (d : Disk). d.published (side_name Times)) same ∙ held.timed.file; form = held.timed.form };
+  timed = record { bytes = held.timed.bytes; file = ap (λ (d : Disk). d.published (cache_file_name Times)) same ∙ held.timed.file; form = held.timed.form };
 }
 
 held_beside : (number : ℕ) (partial : Bool) (bytes : List ℕ) (s t : Folder) → number < most_runs → KeepsRun number (run_of partial bytes) s t → HoldBoth number s → HoldBoth number t
@@ -137,10 +137,10 @@ held_beside number partial bytes s t few kept held = record {
   timed = record { bytes = held.timed.bytes; file = still Times ∙ held.timed.file; form = held.timed.form };
 }
   where
-    still : (side : Side) → t.disk.published (side_name side) ≡ s.disk.published (side_name side)
+    still : (side : CacheFile) → t.disk.published (cache_file_name side) ≡ s.disk.published (cache_file_name side)
     still side =
-        ap (λ (d : Disk). d.published (side_name side)) kept.disk
-        ∙ put_other s.disk.published (run_name number partial) bytes (side_name side) (λ e. side_differs side number partial (omega (arith, few)) (sym e))
+        ap (λ (d : Disk). d.published (cache_file_name side)) kept.disk
+        ∙ put_other s.disk.published (run_name number partial) bytes (cache_file_name side) (λ e. side_differs side number partial (omega (arith, few)) (sym e))
 
 then_held : (number : ℕ) (a b : Option Folder) (R : Folder → Folder → Type 0) → Goes a b R → ((s t : Folder) → R s t → HoldBoth number s → HoldBoth number t) → IsSomeAnd a (HoldBoth number) → IsSomeAnd b (HoldBoth number)
 then_held number None b R step keeps held = absurd held
@@ -188,18 +188,18 @@ works_by_few partial number last rows rests a b r k f v w x y z few begun one re
 -- ---- which status a refusal has
 
 -- the answer of a step that hands on a refusal
-pub handed : {T : Type 0} (result : Result T Refusal) (refusal : Refusal) → IsErrAnd result (λ given. given ≡ refusal) → (refusal_code refusal ≡ 3 → ⊥) → IfErr result (λ r. refusal_code r ≡ 3 → ⊥)
+pub handed : {T : Type 0} (result : Result T Refusal) (refusal : Refusal) → IsErrAnd result (λ given. given ≡ refusal) → (refusal_exit_status refusal ≡ 3 → ⊥) → IfErr result (λ r. refusal_exit_status r ≡ 3 → ⊥)
 handed (Ok value) refusal is other = tt
-handed (Err given) refusal is other = λ three. other (ap refusal_code (sym is) ∙ three)
+handed (Err given) refusal is other = λ three. other (ap refusal_exit_status (sym is) ∙ three)
 
-pub start_other : (fault : StartRefusal) → refusal_code (Start fault) ≡ 3 → ⊥
+pub start_other : (fault : StartRefusal) → refusal_exit_status (Start fault) ≡ 3 → ⊥
 start_other start.Spawn three = omega (arith, three)
 start_other start.NoMemory three = omega (arith, three)
 
-pub lanes_other : (fault : LanesRefusal) → refusal_code (Lanes fault) ≡ 3 → ⊥
+pub lanes_other : (fault : LanesRefusal) → refusal_exit_status (Lanes fault) ≡ 3 → ⊥
 lanes_other (lanes.Shelf call) three = omega (arith, three)
 lanes_other lanes.NoMemory three = omega (arith, three)
 
-pub refresh_other : (fault : TellFault) → refusal_code (Refresh fault) ≡ 3 → ⊥
+pub refresh_other : (fault : TellFault) → refusal_exit_status (Refresh fault) ≡ 3 → ⊥
 refresh_other tell_fault.Shelf three = omega (arith, three)
 refresh_other tell_fault.NoMemory three = omega (arith, three)

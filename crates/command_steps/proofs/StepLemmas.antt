@@ -10,8 +10,8 @@ use Rattle.testr_words.specs.declared.format.FormatKind.{FormatKind}
 use Rattle.command_steps.specs.Steps.{Step, Then, stops, goes_on, Still, Gives, Part, At}
 use Rattle.command_steps.specs.Refreshing.{Refreshes}
 use Rattle.command_steps.specs.Reporting.{Report, Reports, Prints}
-use Rattle.command_steps.specs.declared.reporting.PrintFault.{PrintFault}
-use Rattle.command_steps.specs.declared.told.TellFault.{TellFault}
+use Rattle.command_steps.specs.declared.run_report.PrintFault.{PrintFault}
+use Rattle.command_steps.specs.declared.question_answers.TellFault.{TellFault}
 
 module _ {W A B E R : Type 0} {name : E → R} {second : A → Step W B R} {before after : W} {result : Result B R} where
   -- an exit by `?`

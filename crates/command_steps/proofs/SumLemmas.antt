@@ -3,7 +3,7 @@ use Rattle.std.proofs.Common.{◌≡◌, ◌<◌, ℕ, true, false, Bool, List, 
 use Rattle.std.specs.Prelude.{IsErrAnd, ◌||◌, if◌then◌else◌}
 use Rattle.std.specs.List.{filter, flat_map, list_any}
 use Rattle.std.proofs.lemmas.Result.{err_from_is_err_and}
-use Rattle.build_notes.specs.Notes.{note_of, notes_of}
+use Rattle.build_notes.specs.Notes.{note_of, failure_notes}
 use Rattle.outcome_fold.specs.Answers.{row_fails}
 use Rattle.outcome_fold.specs.declared.row.Row.{Row}
 use Rattle.outcome_fold.specs.declared.summary.Summary.{Summary}
@@ -50,5 +50,5 @@ failing_again (row ∷ rows) = by (row_fails row) refl (failing_again rows)
     by true is rest = ap (λ (b : Bool). if b then row ∷ filter row_fails (filter row_fails rows) else filter row_fails (filter row_fails rows)) is ∙ ap (λ (l : List Row). row ∷ l) rest
     by false is rest = rest
 
-pub notes_kept : (rows kept : List Row) → kept ≡ filter row_fails rows → notes_of kept ≡ notes_of rows
-notes_kept rows kept is = ap notes_of is ∙ ap (flat_map note_of) (failing_again rows)
+pub notes_kept : (rows kept : List Row) → kept ≡ filter row_fails rows → failure_notes kept ≡ failure_notes rows
+notes_kept rows kept is = ap failure_notes is ∙ ap (flat_map note_of) (failing_again rows)

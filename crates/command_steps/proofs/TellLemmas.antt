@@ -19,7 +19,7 @@ use Rattle.run_ledger.specs.Cached.{SaysItsFailing, SaysItsTimes}
 use Rattle.run_ledger.specs.Ledger.{HasRowsAt, IsFailingSet}
 use Rattle.skip_reasons.specs.Skips.{TellsSkips}
 use Rattle.last_failures.specs.Last.{AreLastFailures}
-use Rattle.last_failures.specs.Texts.{text_of as last_failures_text_of, packets_text}
+use Rattle.last_failures.specs.Texts.{failures_text as last_failures_text_of, packets_text}
 use Rattle.last_failures.specs.declared.failures.Failure.{Failure}
 use Rattle.sub_text.specs.Texts.{report_of, failing_text_of}
 use Rattle.command_steps.specs.Verdicts.{verdict_of}
@@ -31,8 +31,8 @@ use Rattle.command_steps.specs.Trusted.{SoundFailing, SoundTimes}
 use Rattle.command_steps.specs.Told.{TellsSo, IsAnswer, fault_fails, fault_of_ledger}
 use Rattle.testr_words.specs.declared.command.Question.{Question}
 use Rattle.testr_words.specs.declared.command.Question.TheVariants.{Last}
-use Rattle.command_steps.specs.declared.told.Told.{Told}
-use Rattle.command_steps.specs.declared.told.TellFault.{TellFault}
+use Rattle.command_steps.specs.declared.question_answers.Told.{Told}
+use Rattle.command_steps.specs.declared.question_answers.TellFault.{TellFault}
 
 -- and so does a call that reads its runs
 pub ledger_fails : {T : Type 0} (n m : ℕ) (before after : Option ShelfCall) (result : Result T LedgerFault) (fault : LedgerFault) (told : TellFault) → result ≡ Err fault → told ≡ fault_of_ledger fault → before ≡ None → LedgerCloses before after result → RisesExactlyIf n m (ledger_failed result) → RisesExactlyIf n m (fault_fails told)

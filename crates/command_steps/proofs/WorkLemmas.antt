@@ -5,7 +5,7 @@ use Rattle.std.proofs.lemmas.Result.{err_from_is_err_and}
 use Rattle.outcome_fold.specs.declared.row.Row.{Row}
 use Rattle.suite_run.specs.Summed.{GivesSums}
 use Rattle.command_steps.specs.Working.{kept_in}
-use Rattle.command_steps.specs.declared.working.Kept.{Kept}
+use Rattle.command_steps.specs.declared.worker_run.Kept.{Kept}
 use Rattle.command_steps.specs.declared.answer.Refusal.{Refusal}
 
 -- what is so of a value, where there is one

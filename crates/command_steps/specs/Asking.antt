@@ -10,7 +10,7 @@ use Rattle.outcome_fold.specs.Order.{text_cmp}
 use Rattle.run_ledger.specs.Ledger.{IsFailingSet, AreTimes}
 use Rattle.command_steps.specs.Told.{tell_failed}
 use Rattle.command_steps.specs.Trusted.{SoundFailing, SoundTimes}
-use Rattle.command_steps.specs.declared.told.TellFault.{TellFault}
+use Rattle.command_steps.specs.declared.question_answers.TellFault.{TellFault}
 
 -- the ids are those that fail by all runs
 pub record FindsFailing (before after : Seen Folder) (result : Result (List (List ℕ)) TellFault) : Type 0 where

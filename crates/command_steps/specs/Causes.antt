@@ -10,7 +10,7 @@ use Rattle.outcome_fold.specs.declared.row.Row.{Row}
 use Rattle.sub_number.specs.declared.memory.NoMemory.{NoMemory}
 use Rattle.suite_causes.specs.Lines.{cause_line}
 use Rattle.suite_causes.specs.Ran.{HasRanAt}
-use Rattle.suite_causes.specs.Searching.{Ids, Searches}
+use Rattle.suite_causes.specs.Searching.{TestIds, Searches}
 use Rattle.suite_causes.specs.Suspects.{count_before, suspects_of}
 use Rattle.suite_causes.specs.declared.suspects.Suspect.{Suspect}
 use Rattle.testr_conf.specs.Settings.{Settings}
@@ -21,7 +21,7 @@ use Rattle.command_steps.specs.Told.{tell_failed}
 use Rattle.command_steps.specs.declared.answer.Refusal.{Refusal}
 use Rattle.command_steps.specs.declared.answer.Refusal.TheVariants.{Suspects, Ran, Search, Print}
 use Rattle.command_steps.specs.declared.causes.LaneIds.{LaneIds}
-use Rattle.command_steps.specs.declared.told.TellFault.{TellFault}
+use Rattle.command_steps.specs.declared.question_answers.TellFault.{TellFault}
 
 -- ---- the chain
 
@@ -30,17 +30,17 @@ pub record ListsSuspects (rows : List Row) (result : Result (List Suspect) NoMem
   pub suspects : IfOk result (λ list. list ≡ suspects_of (filter row_fails rows))
 
 -- the ids of the tests that began to run on the lane in the run of this number; the folder stays
-pub record FindsRan (number lane : ℕ) (before after : Seen Folder) (result : Result Ids TellFault) : Type 0 where
+pub record FindsRan (number lane : ℕ) (before after : Seen Folder) (result : Result TestIds TellFault) : Type 0 where
   pub ids : IfOk result (λ ids. IfSome before.told (HasRanAt number lane ids))
   pub same : Goes before.told after.told Stays
   pub count : RisesExactlyIf before.faults after.faults (tell_failed result)
 
 -- of the ids of a lane the candidates of a test: those that began to run before it
-abbrev pub candidates_in : (test : List ℕ) → Ids → Ids
+abbrev pub candidates_in : (test : List ℕ) → TestIds → TestIds
 candidates_in test ids = take (count_before test ids) ids
 
 -- what makes the test fail is searched among these candidates, and the line of what was found is printed
-abbrev pub FindsAmong : Settings → (test : List ℕ) → (candidates : Ids) → Step Work (Unit {0}) Refusal
+abbrev pub FindsAmong : Settings → (test : List ℕ) → (candidates : TestIds) → Step Work (Unit {0}) Refusal
 FindsAmong settings test candidates =
     Then Search (At work_spawner (Searches settings candidates test)) (λ found.
     Then Print (At work_out (Prints (cause_line test candidates found))) (λ _.

@@ -7,8 +7,8 @@ use Rattle.edge_io.specs.Causes.{RisesExactlyIf}
 use Rattle.run_shelf.specs.Repository.{run_at}
 use Rattle.command_steps.specs.Outside.{Shown}
 use Rattle.command_steps.specs.Told.{fault_fails}
-use Rattle.command_steps.specs.declared.copying.CopyFault.{CopyFault}
-use Rattle.command_steps.specs.declared.copying.CopyFault.TheVariants.{Read, Write}
+use Rattle.command_steps.specs.declared.run_copy.CopyFault.{CopyFault}
+use Rattle.command_steps.specs.declared.run_copy.CopyFault.TheVariants.{Read, Write}
 use Rattle.command_steps.specs.declared.answer.Refusal.{Refusal}
 use Rattle.command_steps.specs.declared.answer.Refusal.TheVariants.{Tell, Print}
 
@@ -43,7 +43,7 @@ abbrev pub BeginsAt : ℕ → List ℕ → Folder → Type 0
 BeginsAt number bytes s = IsSomeAnd (run_at s.disk.published number) (λ run. (rest : List ℕ) × (run.bytes ≡ bytes ++ rest))
 
 -- The output took the first bytes of the run of this number, and all of them where it was done.
-pub record Copies (number : ℕ) (before after : Shown) (result : Result (Unit {0}) CopyFault) : Type 0 where
+pub record CopiesRun (number : ℕ) (before after : Shown) (result : Result (Unit {0}) CopyFault) : Type 0 where
   pub bytes : List ℕ
   pub taken : Appends before.out.told after.out.told bytes
   pub front : IfSome before.folder.told (BeginsAt number bytes)

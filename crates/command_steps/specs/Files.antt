@@ -6,6 +6,7 @@ use Rattle.edge_io.specs.Disk.{Files}
 use Rattle.edge_io.specs.Seen.{Seen}
 use Rattle.outcome_fold.specs.declared.summary.Summary.{Summary}
 use Rattle.edge_io.specs.Steps.{Goes, Grown}
+use Rattle.edge_io.specs.Limits.{most_bytes}
 use Rattle.outcome_fold.specs.declared.row.Row.{Row}
 use Rattle.packet_codec.specs.Grammar.{AreBytes}
 use Rattle.packet_codec.specs.declared.event.Event.{Event}
@@ -15,12 +16,12 @@ use Rattle.run_shelf.specs.declared.faults.ShelfCall.TheVariants.{Append}
 use Rattle.worker_lane.specs.Recorded.{HasRecorded, IsRecorded}
 use Rattle.worker_lane.specs.Scribing.{Scribing, Recording}
 use Rattle.command_steps.specs.Outside.{Work, Filed, fed, work_fed, work_filed}
-use Rattle.command_steps.specs.Recording.{Records, RecordsBytes, HasRecordCause, most_bytes}
+use Rattle.command_steps.specs.Recording.{Records, RecordsBytes, HasRecordCause}
 use Rattle.command_steps.specs.declared.files.Recorded.{Recorded}
 use Rattle.command_steps.specs.Runs.{run_bytes}
 use Rattle.command_steps.specs.Steps.{Step, At}
-use Rattle.command_steps.specs.declared.recording.RecordFault.{RecordFault}
-use Rattle.command_steps.specs.declared.recording.RecordFault.TheVariants.{Shelf, Input, TooLong, Site, NoFile, FileTooLong, NoMemory}
+use Rattle.command_steps.specs.declared.input_recorder.RecordFault.{RecordFault}
+use Rattle.command_steps.specs.declared.input_recorder.RecordFault.TheVariants.{Shelf, Input, TooLong, Site, NoFile, FileTooLong, NoMemory}
 
 -- ---- sources, and what is recorded of them in turn
 
@@ -42,7 +43,7 @@ HasRecordedInTurn lane (source ∷ sources) events = (front rest : List Event) �
 -- ---- one file
 
 -- no call failed
-pub record NoneFailed (before after : Filed) : Type 0 where
+pub record NoneFailedFiling (before after : Filed) : Type 0 where
   pub folder : after.folder.faults ≡ before.folder.faults
   pub site : after.site.faults ≡ before.site.faults
 
@@ -65,7 +66,7 @@ pub record RecordsFilePieces (name : List ℕ) (before after : Filed) (scribe : 
   pub was_heard : heard run
   pub are_bytes : AreBytes run
   pub written : Goes before.folder.told after.folder.told (Grown run)
-  pub counts : NoneFailed before after
+  pub counts : NoneFailedFiling before after
   pub files : after.site.told ≡ before.site.told
 
 -- what is recorded of the file under the lane was written behind the draft, and heard as this says
@@ -79,7 +80,7 @@ pub record RecordsFile (lane : ℕ) (name : List ℕ) (before after : Filed) (he
   pub was_heard : heard run
   pub are_bytes : AreBytes run
   pub written : Goes before.folder.told after.folder.told (Grown run)
-  pub counts : NoneFailed before after
+  pub counts : NoneFailedFiling before after
   pub files : after.site.told ≡ before.site.told
 
 -- the cause of a refusal at this file
@@ -88,9 +89,9 @@ HasFileCause name before after (Shelf call) = Rose before.folder.faults after.fo
 HasFileCause name before after Input = ⊥
 HasFileCause name before after TooLong = ⊥
 HasFileCause name before after Site = Rose before.site.faults after.site.faults × (after.folder.faults ≡ before.folder.faults)
-HasFileCause name before after (NoFile given) = (given.now ≡ name) × IfSome before.site.told (λ files. files name ≡ None) × NoneFailed before after
-HasFileCause name before after (FileTooLong given) = (given.now ≡ name) × IfSome before.site.told (λ files. IsSomeAnd (files name) (λ bytes. most_bytes < length bytes)) × NoneFailed before after
-HasFileCause name before after NoMemory = NoneFailed before after
+HasFileCause name before after (NoFile given) = (given.now ≡ name) × IfSome before.site.told (λ files. files name ≡ None) × NoneFailedFiling before after
+HasFileCause name before after (FileTooLong given) = (given.now ≡ name) × IfSome before.site.told (λ files. IsSomeAnd (files name) (λ bytes. most_bytes < length bytes)) × NoneFailedFiling before after
+HasFileCause name before after NoMemory = NoneFailedFiling before after
 
 -- ---- all files
 
@@ -106,7 +107,7 @@ pub record RecordsInTurn (names : List (List ℕ)) (before after : Filed) (run :
   pub packets : run ≡ run_bytes events
   pub run_is : AreBytes run
   pub written : Goes before.folder.told after.folder.told (Grown run)
-  pub counts : NoneFailed before after
+  pub counts : NoneFailedFiling before after
   pub files : after.site.told ≡ before.site.told
 
 -- all files were read and recorded, one after another, and these are the rows
@@ -128,7 +129,7 @@ pub record StopsAtFile (names : List (List ℕ)) (before after : Filed) (fault :
 
 -- why files are not recorded: one of them stops it, or memory is wanting
 abbrev pub HasFilesCause : List (List ℕ) → Filed → Filed → RecordFault → Type 0
-HasFilesCause names before after fault = StopsAtFile names before after fault ⊎ ((fault ≡ NoMemory) × NoneFailed before after)
+HasFilesCause names before after fault = StopsAtFile names before after fault ⊎ ((fault ≡ NoMemory) × NoneFailedFiling before after)
 
 -- at each exit nothing of the folder but the draft has changed, and no file
 pub record RecordsFiles (names : List (List ℕ)) (before after : Filed) (result : Result (List Row) RecordFault) : Type 0 where

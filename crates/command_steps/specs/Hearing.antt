@@ -9,8 +9,8 @@ use Rattle.packet_codec.specs.declared.event.Event.{Event}
 use Rattle.suite_run.specs.Aloud.{ArePieces, Gathers, unsaid}
 use Rattle.suite_run.specs.declared.lines.Hearing.{Hearing}
 use Rattle.command_steps.specs.declared.files.Recorded.{Recorded}
-use Rattle.command_steps.specs.declared.recording.RecordFault.{RecordFault}
-use Rattle.command_steps.specs.declared.recording.RecordFault.TheVariants.{NoMemory}
+use Rattle.command_steps.specs.declared.input_recorder.RecordFault.{RecordFault}
+use Rattle.command_steps.specs.declared.input_recorder.RecordFault.TheVariants.{NoMemory}
 
 -- By `heard`, which says of two moments and some pieces that these were heard between them, these bytes were: as pieces, each
 -- of which is the packets of some events.
@@ -26,7 +26,7 @@ abbrev pub HearsMore : {L : Type 0} (heard : L → L → List (List ℕ) → Typ
 HearsMore {L = L} heard old new bytes = (begun : L) (front : List ℕ) → HasHeard heard begun old front → HasHeard heard begun new (front ++ bytes)
 
 -- some pieces were heard, or memory was wanted at the last of them
-pub record Stops {L : Type 0} (heard keeps : L → L → List (List ℕ) → Type 0) (begun now : L) : Type 0 where
+pub record StopsHearing {L : Type 0} (heard keeps : L → L → List (List ℕ) → Type 0) (begun now : L) : Type 0 where
   pub groups : List (List Event)
   pub pieces : List (List ℕ)
   pub are_pieces : ArePieces groups pieces
@@ -34,14 +34,14 @@ pub record Stops {L : Type 0} (heard keeps : L → L → List (List ℕ) → Typ
 
 -- so it is behind what was heard by then
 abbrev pub MayStop : {L : Type 0} (heard keeps : L → L → List (List ℕ) → Type 0) → (old new : L) → Type 0
-MayStop {L = L} heard keeps old new = (begun : L) (front : List ℕ) → HasHeard heard begun old front → Stops heard keeps begun new
+MayStop {L = L} heard keeps old new = (begun : L) (front : List ℕ) → HasHeard heard begun old front → StopsHearing heard keeps begun new
 
 -- What is kept of the events that were heard, and the end of their lines, where nothing else is left to say; or memory was wanted.
-abbrev pub Closes : Hearing → Result Recorded RecordFault → Type 0
-Closes hearing (Ok recorded) = (filter_tags : List (List ℕ)) (kind : Live) (said : List ℕ) (events : List Event) → Gathers filter_tags kind said hearing events → unsaid hearing ≡ [] → Sums filter_tags (rows_of events) recorded.summary × (recorded.end.items ≡ live_end kind (length (rows_done events)) (open_rows events))
-Closes hearing (Err fault) = fault ≡ NoMemory
+abbrev pub ClosesRecording : Hearing → Result Recorded RecordFault → Type 0
+ClosesRecording hearing (Ok recorded) = (filter_tags : List (List ℕ)) (kind : Live) (said : List ℕ) (events : List Event) → Gathers filter_tags kind said hearing events → unsaid hearing ≡ [] → Sums filter_tags (rows_of events) recorded.summary × (recorded.end.items ≡ live_end kind (length (rows_done events)) (open_rows events))
+ClosesRecording hearing (Err fault) = fault ≡ NoMemory
 
 -- why it was not recorded; or what was heard, closed
-abbrev pub Answers : Result (Unit {0}) RecordFault → Hearing → Result Recorded RecordFault → Type 0
-Answers (Ok done) hearing answer = Closes hearing answer
-Answers (Err fault) hearing answer = answer ≡ Err fault
+abbrev pub AnswersRecording : Result (Unit {0}) RecordFault → Hearing → Result Recorded RecordFault → Type 0
+AnswersRecording (Ok done) hearing answer = ClosesRecording hearing answer
+AnswersRecording (Err fault) hearing answer = answer ≡ Err fault

@@ -3,10 +3,10 @@ use Rattle.std.specs.Prelude.{◌≡◌, ◌++◌, ℕ, List, Result, OnOk}
 use Rattle.std.specs.Io.KnownBytes.{Appends}
 use Rattle.edge_io.specs.Causes.{HasCause}
 use Rattle.edge_io.specs.Seen.{Seen}
-use Rattle.command_steps.specs.declared.reporting.PrintFault.{PrintFault}
+use Rattle.command_steps.specs.declared.run_report.PrintFault.{PrintFault}
 
 -- The part was put behind what was held: of both together the sink took a front, and the rest is held where no write failed.
-pub record Passes (part held : List ℕ) (before : Seen (List ℕ)) (kept : List ℕ) (after : Seen (List ℕ)) (result : Result (Unit {0}) PrintFault) : Type 0 where
+pub record PrintsBehindHeld (part held : List ℕ) (before : Seen (List ℕ)) (kept : List ℕ) (after : Seen (List ℕ)) (result : Result (Unit {0}) PrintFault) : Type 0 where
   pub taken : List ℕ
   pub rest : List ℕ
   pub parts : taken ++ rest ≡ held ++ part

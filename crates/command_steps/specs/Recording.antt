@@ -1,11 +1,12 @@
 -- The step that records an input as it is read (docs/FORMATS.md, "What is recorded of a stream"): what it does to the
 -- draft and the input, why it refuses, and what it says then.
-use Rattle.std.specs.Prelude.{◌≡◌, Result, ℕ, ◌+◌, ◌^◌, ◌<◌, ◌≤◌, Option, IfSome, IfOk, IfErr, List, [], ◌++◌, length, codes}
+use Rattle.std.specs.Prelude.{◌≡◌, Result, ℕ, ◌+◌, ◌<◌, ◌≤◌, Option, IfSome, IfOk, IfErr, List, [], ◌++◌, length, codes}
 use Rattle.std.specs.Io.KnownBytes.{Consumes, IsAtEnd}
 use Rattle.edge_io.specs.Causes.{Rose}
 use Rattle.edge_io.specs.Disk.{Folder}
 use Rattle.edge_io.specs.Seen.{Seen}
 use Rattle.edge_io.specs.Steps.{Goes, Grown}
+use Rattle.edge_io.specs.Limits.{most_bytes, most_at_once}
 use Rattle.outcome_fold.specs.declared.row.Row.{Row}
 use Rattle.packet_codec.specs.Grammar.{AreBytes}
 use Rattle.run_ledger.specs.Reading.{AreRowsOf}
@@ -14,16 +15,8 @@ use Rattle.run_shelf.specs.declared.faults.ShelfCall.TheVariants.{Append}
 use Rattle.worker_lane.specs.Recorded.{IsRecorded}
 use Rattle.worker_lane.specs.Scribing.{Scribing, Recording, GivesPacket, GivesPackets}
 use Rattle.command_steps.specs.Outside.{Fed}
-use Rattle.command_steps.specs.declared.recording.RecordFault.{RecordFault}
-use Rattle.command_steps.specs.declared.recording.RecordFault.TheVariants.{Shelf, Input, TooLong, Site, NoFile, FileTooLong, NoMemory}
-
--- how many bytes an input may have
-abbrev pub most_bytes : ℕ
-most_bytes = 2 ^ 60
-
--- how many bytes a read gives at most
-abbrev pub most_at_once : ℕ
-most_at_once = 65536
+use Rattle.command_steps.specs.declared.input_recorder.RecordFault.{RecordFault}
+use Rattle.command_steps.specs.declared.input_recorder.RecordFault.TheVariants.{Shelf, Input, TooLong, Site, NoFile, FileTooLong, NoMemory}
 
 -- some bytes of the input were read, no more than it may have
 pub record ReadsFew (left after : Option (List ℕ)) : Type 0 where
@@ -135,14 +128,14 @@ pub record Records (before after : Fed) (result : Result (List Row) RecordFault)
 
 -- the exit status where the input is not recorded so: 3 for what is missing or too long, 4 where a call failed, 5 where
 -- memory was wanting
-abbrev pub record_code : RecordFault → ℕ
-record_code (Shelf call) = 4
-record_code Input = 4
-record_code TooLong = 3
-record_code Site = 4
-record_code (NoFile name) = 3
-record_code (FileTooLong name) = 3
-record_code NoMemory = 5
+abbrev pub record_exit_status : RecordFault → ℕ
+record_exit_status (Shelf call) = 4
+record_exit_status Input = 4
+record_exit_status TooLong = 3
+record_exit_status Site = 4
+record_exit_status (NoFile name) = 3
+record_exit_status (FileTooLong name) = 3
+record_exit_status NoMemory = 5
 
 -- the line where the input is not recorded so
 abbrev pub record_text : RecordFault → List ℕ

@@ -8,13 +8,13 @@ use Rattle.edge_io.specs.Seen.{Seen}
 use Rattle.outcome_fold.specs.declared.row.Row.{Row}
 use Rattle.sub_number.specs.declared.memory.NoMemory.{NoMemory}
 use Rattle.sub_text.specs.Texts.{failure_of, report_of}
-use Rattle.build_notes.specs.Notes.{notes_of}
+use Rattle.build_notes.specs.Notes.{failure_notes}
 use Rattle.testr_words.specs.declared.format.FormatKind.{FormatKind}
 use Rattle.testr_words.specs.declared.format.FormatKind.TheVariants.{Plain, Github}
 use Rattle.command_steps.specs.Verdicts.{verdict_of}
 use Rattle.command_steps.specs.declared.answer.Verdict.{Verdict}
-use Rattle.command_steps.specs.declared.reporting.Ending.{Ending}
-use Rattle.command_steps.specs.declared.reporting.PrintFault.{PrintFault}
+use Rattle.command_steps.specs.declared.run_report.Ending.{Ending}
+use Rattle.command_steps.specs.declared.run_report.PrintFault.{PrintFault}
 
 -- a report as it is printed, and its verdict
 pub record Report : Type 0 where
@@ -24,7 +24,7 @@ pub record Report : Type 0 where
 -- what stands behind the report of these rows: notes of those that fail, where a build server reads it
 abbrev pub notes_for : FormatKind → List Row → List ℕ
 notes_for Plain rows = []
-notes_for Github rows = notes_of rows
+notes_for Github rows = failure_notes rows
 
 -- the report of the run of these rows and this number, for this reader; tests that do not fail and have one of these tags are not
 -- counted

@@ -7,7 +7,7 @@ use Rattle.packet_codec.specs.declared.event.Event.{Event}
 use Rattle.packet_codec.specs.Canonical.{canonical}
 use Rattle.run_shelf.specs.Images.{HasRunBeside}
 use Rattle.run_shelf.specs.Repository.{Run, run_of, Shows, IsRepository, HasKinds}
-use Rattle.run_shelf.specs.Sides.{SameButSides}
+use Rattle.run_shelf.specs.Sides.{SameButCaches}
 
 -- the bytes of a run of these events
 abbrev pub run_bytes : List Event → List ℕ
@@ -24,7 +24,7 @@ pub record HasRuns (number : ℕ) (s : Folder) : Type 0 where
 pub record HasRunAndCaches (files : Files) (number : ℕ) (run : Run) (image : Files) : Type 0 where
   pub between : Files
   pub beside : HasRunBeside files number run between
-  pub but : SameButSides between image
+  pub but : SameButCaches between image
 
 -- reads of the folder give the same files
 abbrev pub KeepsFiles : Folder → Folder → Type 0

@@ -9,10 +9,10 @@ use Rattle.run_shelf.specs.Repository.{Run, run_at, IsRepository}
 use Rattle.run_ledger.specs.Reading.{AreRowsOf}
 use Rattle.run_ledger.specs.Ledger.{IsFailingSet}
 use Rattle.skip_reasons.specs.Skips.{TellsSkips}
-use Rattle.build_notes.specs.Notes.{notes_of}
+use Rattle.build_notes.specs.Notes.{failure_notes}
 use Rattle.last_failures.specs.Last.{AreLastFailures}
 use Rattle.last_failures.specs.declared.failures.Failure.{Failure}
-use Rattle.last_failures.specs.Texts.{text_of as last_failures_text_of, packets_text}
+use Rattle.last_failures.specs.Texts.{failures_text as last_failures_text_of, packets_text}
 use Rattle.sub_text.specs.Texts.{report_of, slowest_of, failing_text_of}
 use Rattle.command_steps.specs.Verdicts.{verdict_of}
 use Rattle.command_steps.specs.Runs.{HasRuns}
@@ -66,7 +66,7 @@ TellsReasons false rows reasons = reasons ≡ []
 pub record IsNotedReport (skips : Bool) (rows : List Row) (number : ℕ) (text : List ℕ) : Type 0 where
   pub reasons : List ℕ
   pub tells : TellsReasons skips rows reasons
-  pub text_is : text ≡ (report_of rows number [] ++ reasons) ++ notes_of rows
+  pub text_is : text ≡ (report_of rows number [] ++ reasons) ++ failure_notes rows
 
 -- so it is of the last run
 pub record SaysNotes (skips : Bool) (s : Folder) (text : List ℕ) (v : Verdict) : Type 0 where
@@ -119,14 +119,14 @@ pub record SaysFailurePackets (s : Folder) (text : List ℕ) (v : Verdict) : Typ
   pub verdict_is : v ≡ verdict.Passed
 
 -- the line with how many runs there are
-abbrev pub stats_of : ℕ → List ℕ
-stats_of count = codes "runs=" ++ decimal count ++ 10 ∷ []
+abbrev pub run_count_line : ℕ → List ℕ
+run_count_line count = codes "runs=" ++ decimal count ++ 10 ∷ []
 
 -- how many runs there are
 pub record SaysStats (s : Folder) (text : List ℕ) (v : Verdict) : Type 0 where
   pub count : ℕ
   pub runs : HasRuns count s
-  pub text_is : text ≡ stats_of count
+  pub text_is : text ≡ run_count_line count
   pub verdict_is : v ≡ verdict.Passed
 
 -- of the runs that the folder shows, the question is answered by this text and this verdict

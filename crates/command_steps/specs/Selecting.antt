@@ -1,7 +1,7 @@
 -- The steps of `run` that say which tests run, in how many workers, and what each worker is started with.
 use Rattle.suite_run.specs.NoneLost.{AreAllShort}
-use Rattle.command_steps.specs.declared.planning.WorkPlan.{WorkPlan}
-use Rattle.command_steps.specs.declared.planning.LongId.{LongId}
+use Rattle.command_steps.specs.declared.work_plan.WorkPlan.{WorkPlan}
+use Rattle.command_steps.specs.declared.work_plan.LongId.{LongId}
 use Rattle.std.specs.Prelude.{◌≡◌, ◌⊎◌, ℕ, zero, suc, Bool, true, false, not, ◌&&◌, ◌||◌, nat_lt, min, is_some, Option, Some, None, List, [], length, Result, Ok, Err, IfOk, IfErr, OnOk}
 use Rattle.std.specs.FinMap as fin
 use Rattle.std.specs.FinMap.{FinMap}
@@ -26,7 +26,7 @@ use Rattle.suite_plan.specs.Processors.{CountsProcessors}
 use Rattle.suite_plan.specs.Sharing.{ids_of_shard, shares_for}
 use Rattle.suite_plan.specs.declared.pattern_list.PatternListRefusal.TheVariants as pattern_list
 use Rattle.suite_plan.specs.declared.picks.Picks.{Picks}
-use Rattle.suite_plan.specs.declared.sharing.TheConstants.{MOST_WORKERS}
+use Rattle.suite_plan.specs.declared.worker_shares.TheConstants.{MOST_WORKERS}
 use Rattle.command_steps.specs.Asking.{FindsFailing, FindsTimes}
 use Rattle.command_steps.specs.Outside.{Work, work_folder, work_site, work_spawner}
 use Rattle.command_steps.specs.Perhaps.{when, Perhaps}
@@ -34,10 +34,10 @@ use Rattle.command_steps.specs.Steps.{Step, Then, Still, Gives, At}
 use Rattle.testr_words.specs.Suites.{Wanted, RunOptions, is_choosing}
 use Rattle.command_steps.specs.declared.answer.Refusal.{Refusal}
 use Rattle.command_steps.specs.TimesFile.{ReadsTimes}
-use Rattle.command_steps.specs.declared.selecting.Further.{Further}
-use Rattle.command_steps.specs.declared.selecting.FurtherRefusal.{FurtherRefusal}
-use Rattle.command_steps.specs.declared.selecting.FurtherRefusal.TheVariants as further
-use Rattle.command_steps.specs.declared.selecting.Selected.{Selected}
+use Rattle.command_steps.specs.declared.test_selection.Further.{Further}
+use Rattle.command_steps.specs.declared.test_selection.FurtherRefusal.{FurtherRefusal}
+use Rattle.command_steps.specs.declared.test_selection.FurtherRefusal.TheVariants as further
+use Rattle.command_steps.specs.declared.test_selection.Selected.{Selected}
 use Rattle.command_steps.specs.declared.answer.Refusal.TheVariants.{LoadList, PatternLine, TimesFile, Tell, Call, Table, Listing, Memory, Job as JobRefused, LongId as TooLong}
 
 -- ---- the number of workers
@@ -71,8 +71,8 @@ further_refusal (further.Patterns (pattern_list.Bad line)) = PatternLine line
 further_refusal (further.Times refusal) = TimesFile refusal
 
 -- the times as a map
-abbrev pub Times : Type 0
-Times = FinMap text_cmp ℕ
+abbrev pub TimesById : Type 0
+TimesById = FinMap text_cmp ℕ
 
 -- the steps that read the lists of further patterns, and the file of times, where they are named
 abbrev pub ReadsFurther : Wanted → Step (Seen Files) Further FurtherRefusal
@@ -109,30 +109,30 @@ wants_times selected = not (is_some selected.times) && nat_lt 1 selected.workers
 
 -- The times that shards go by: those of the file, or none. Those of a repository are not among them, so runs that come between
 -- change no shard.
-abbrev pub shard_times : (given : Option Times) → Times
+abbrev pub shard_times : (given : Option TimesById) → TimesById
 shard_times given = unwrap_or given fin.empty
 
 -- the times that the shares of workers go by: those of the file, or those of the repository, or none
-abbrev pub worker_times : (given known : Option Times) → Times
+abbrev pub worker_times : (given known : Option TimesById) → TimesById
 worker_times given known = unwrap_or given (unwrap_or known fin.empty)
 
 -- of the ids those of the shard, and of these the shares
-abbrev pub shares_in_shard : (groups : Option (List ℕ)) → Option Times → Selected → Ids → List Ids
+abbrev pub shares_in_shard : (groups : Option (List ℕ)) → Option TimesById → Selected → Ids → List Ids
 shares_in_shard groups times selected ids =
     shares_for (fin.get (worker_times selected.times times)) groups (ids_of_shard (fin.get (shard_times selected.times)) groups selected.shard ids) selected.workers
 
 -- the shares of the ids, where ids are given
-abbrev pub shares_of_ids : (groups : Option (List ℕ)) → Option Times → Selected → Option (List Ids)
+abbrev pub shares_of_ids : (groups : Option (List ℕ)) → Option TimesById → Selected → Option (List Ids)
 shares_of_ids groups times selected = option_map (shares_in_shard groups times selected) selected.ids
 
 -- the share of each worker, where the tests are known
-pub record Divides (groups : Option (List ℕ)) (times : Option Times) (selected : Selected) (result : Result (Option (List Ids)) NoMemory) : Type 0 where
+pub record Divides (groups : Option (List ℕ)) (times : Option TimesById) (selected : Selected) (result : Result (Option (List Ids)) NoMemory) : Type 0 where
   pub shares : IfOk result (λ shares. shares ≡ shares_of_ids groups times selected)
 
 -- the ids of each share; none, where there are no shares
-abbrev pub asked_of : Option (List Ids) → List Ids
-asked_of None = []
-asked_of (Some shares) = shares
+abbrev pub ids_of_shares : Option (List Ids) → List Ids
+ids_of_shares None = []
+ids_of_shares (Some shares) = shares
 
 -- what the workers are started with: a job for each, and the ids that each job names
 pub record Planned : Type 0 where
@@ -141,8 +141,8 @@ pub record Planned : Type 0 where
 
 -- Each id of the shares is one that can be told of, should its worker lose it; or one is too long for that.
 pub record NamesIds (shares : Option (List Ids)) (result : Result (Unit {0}) LongId) : Type 0 where
-  pub named : OnOk result (AreAllShort (asked_of shares))
-  pub refused : IfErr result (λ _. AreAllShort (asked_of shares) → ⊥)
+  pub named : OnOk result (AreAllShort (ids_of_shares shares))
+  pub refused : IfErr result (λ _. AreAllShort (ids_of_shares shares) → ⊥)
 
 -- the jobs are those of the lanes, or the first that is refused decides
 pub record MakesJobs (settings : Settings) (shares : Option (List Ids)) (result : Result (List Job) JobFault) : Type 0 where
@@ -169,4 +169,4 @@ Plans settings find_causes selected =
     Then TooLong (Still (NamesIds shares)) (λ _.
     Then JobRefused (Still (MakesJobs settings shares)) (λ jobs.
     Then JobRefused (Still (HandsIds find_causes settings)) (λ _.
-    Gives (record { jobs = jobs; asked = asked_of shares }))))))
+    Gives (record { jobs = jobs; asked = ids_of_shares shares }))))))

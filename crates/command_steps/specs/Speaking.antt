@@ -15,9 +15,9 @@ use Rattle.run_ledger.specs.Reading.{AreRowsOf}
 use Rattle.run_shelf.specs.Repository.{Run, Shows}
 use Rattle.speaker.specs.Speaking.{Takes}
 use Rattle.suite_run.specs.Aloud.{Sinks, echoed}
-use Rattle.suite_run.specs.declared.ear.Shown.{Shown}
+use Rattle.suite_run.specs.declared.run_listener.Shown.{Shown}
 use Rattle.command_steps.specs.Runs.{run_bytes, with_run}
-use Rattle.command_steps.specs.declared.speaking.Silenced.{Silenced}
+use Rattle.command_steps.specs.declared.live_lines.Silenced.{Silenced}
 
 -- ---- while it is recorded
 

@@ -42,9 +42,9 @@ MakesWhereNone before after (Err init_fault.Exists) = ⊥
 MakesWhereNone before after (Err (init_fault.Shelf call)) = Makes before after (Err (init_fault.Shelf call))
 
 -- the exit status where no repository is made: 3 where one is there, 4 where a call of the folder failed
-abbrev pub init_code : InitFault → ℕ
-init_code init_fault.Exists = 3
-init_code (init_fault.Shelf call) = 4
+abbrev pub init_exit_status : InitFault → ℕ
+init_exit_status init_fault.Exists = 3
+init_exit_status (init_fault.Shelf call) = 4
 
 -- the line where no repository is made
 abbrev pub init_text : InitFault → List ℕ
@@ -63,13 +63,13 @@ pub record Opens (before after : Seen Folder) (result : Result Found OpenFault) 
 
 -- the exit status where the folder has no such runs: 3 by what it holds, 4 where a call of it failed, 5 where memory was
 -- wanting
-abbrev pub open_code : OpenFault → ℕ
-open_code open_fault.NoStore = 3
-open_code open_fault.UnknownFormat = 3
-open_code open_fault.BadBase = 3
-open_code (open_fault.Gap number) = 3
-open_code (open_fault.Shelf call) = 4
-open_code open_fault.NoMemory = 5
+abbrev pub open_exit_status : OpenFault → ℕ
+open_exit_status open_fault.NoStore = 3
+open_exit_status open_fault.UnknownFormat = 3
+open_exit_status open_fault.BadBase = 3
+open_exit_status (open_fault.Gap number) = 3
+open_exit_status (open_fault.Shelf call) = 4
+open_exit_status open_fault.NoMemory = 5
 
 -- the line where the folder has no such runs
 abbrev pub open_text : OpenFault → List ℕ

@@ -2,10 +2,10 @@
 use Rattle.std.specs.Prelude.{ℕ, Bool, false, ◌||◌, nat_eq, List, [], ◌∷◌, ◌++◌, codes, if◌then◌else◌}
 use Rattle.std.specs.Fmt.{decimal, signed_decimal}
 use Rattle.std.specs.List.{starts_with}
-use Rattle.suite_causes.specs.declared.searching.SearchFault.{SearchFault}
-use Rattle.suite_causes.specs.declared.searching.SearchFault.TheVariants as search_fault
-use Rattle.suite_plan.specs.declared.calling.CallRefusal.{CallRefusal}
-use Rattle.suite_plan.specs.declared.calling.CallRefusal.TheVariants as call
+use Rattle.suite_causes.specs.declared.cause_search.SearchFault.{SearchFault}
+use Rattle.suite_causes.specs.declared.cause_search.SearchFault.TheVariants as search_fault
+use Rattle.suite_plan.specs.declared.count_command.CallRefusal.{CallRefusal}
+use Rattle.suite_plan.specs.declared.count_command.CallRefusal.TheVariants as call
 use Rattle.stestr_conf.specs.declared.table.TableKey.{TableKey}
 use Rattle.stestr_conf.specs.declared.table.TableKey.TheVariants as table_key
 use Rattle.suite_plan.specs.declared.conf_file.BadConf.{BadConf}
@@ -14,8 +14,8 @@ use Rattle.suite_plan.specs.declared.conf_file.ConfFile.{ConfFile}
 use Rattle.suite_plan.specs.declared.conf_file.ConfFile.TheVariants as file
 use Rattle.suite_plan.specs.declared.conf_file.ConfRefusal.{ConfRefusal}
 use Rattle.suite_plan.specs.declared.conf_file.ConfRefusal.TheVariants as conf
-use Rattle.suite_plan.specs.declared.listing.ListingRefusal.{ListingRefusal}
-use Rattle.suite_plan.specs.declared.listing.ListingRefusal.TheVariants as listing
+use Rattle.suite_plan.specs.declared.test_listing.ListingRefusal.{ListingRefusal}
+use Rattle.suite_plan.specs.declared.test_listing.ListingRefusal.TheVariants as listing
 use Rattle.suite_plan.specs.declared.load_list.ListRefusal.{ListRefusal}
 use Rattle.suite_plan.specs.declared.load_list.ListRefusal.TheVariants as load_list
 use Rattle.suite_plan.specs.declared.pattern_list.BadLine.{BadLine}
@@ -23,13 +23,14 @@ use Rattle.suite_plan.specs.declared.patterns.PatternRefusal.{PatternRefusal}
 use Rattle.suite_plan.specs.declared.patterns.PatternRefusal.TheVariants as pattern
 use Rattle.suite_plan.specs.declared.processors.TableRefusal.{TableRefusal}
 use Rattle.suite_plan.specs.declared.processors.TableRefusal.TheVariants as table
-use Rattle.suite_run.specs.declared.recording.LanesRefusal.{LanesRefusal}
-use Rattle.suite_run.specs.declared.recording.LanesRefusal.TheVariants as lanes
-use Rattle.suite_run.specs.declared.starting.StartRefusal.{StartRefusal}
-use Rattle.suite_run.specs.declared.starting.StartRefusal.TheVariants as start
+use Rattle.suite_run.specs.declared.lane_recorder.LanesRefusal.{LanesRefusal}
+use Rattle.suite_run.specs.declared.lane_recorder.LanesRefusal.TheVariants as lanes
+use Rattle.suite_run.specs.declared.lane_starter.StartRefusal.{StartRefusal}
+use Rattle.suite_run.specs.declared.lane_starter.StartRefusal.TheVariants as start
 use Rattle.command_steps.specs.Telling.{place_text, pattern_place_text}
 use Rattle.command_steps.specs.declared.times_file.TimesRefusal.{TimesRefusal}
 use Rattle.command_steps.specs.declared.times_file.TimesRefusal.TheVariants as times_file
+use Rattle.command_steps.specs.Reporting.{memory_text}
 use Rattle.testr_conf.specs.declared.fault.JobFault.{JobFault}
 use Rattle.testr_conf.specs.declared.fault.JobFault.TheVariants as job
 use Rattle.testr_conf.specs.declared.fault.Key.{Key}
@@ -37,13 +38,9 @@ use Rattle.testr_conf.specs.declared.fault.Key.TheVariants as key
 use Rattle.testr_conf.specs.declared.fault.MachineKey.{MachineKey}
 use Rattle.testr_conf.specs.declared.fault.MachineKey.TheVariants as machine
 
--- the line where memory is wanting
-abbrev pub short_text : List ℕ
-short_text = codes "testr: out of memory\n"
-
 -- the line where a file of the project is not read
-abbrev pub file_text : List ℕ
-file_text = codes "testr: fault reading a file\n"
+abbrev pub project_file_text : List ℕ
+project_file_text = codes "testr: fault reading a file\n"
 
 -- the line where a program is not started
 abbrev pub spawn_text : List ℕ
@@ -65,11 +62,11 @@ long_id_text = codes "testr: an id has more than 65536 bytes\n"
 
 -- the exit status where the configuration is refused: 3 by what its files say, 4 where a read failed, 5 where memory was
 -- wanting
-abbrev pub conf_code : ConfRefusal → ℕ
-conf_code conf.Site = 4
-conf_code conf.Absent = 3
-conf_code (conf.Bad file why) = 3
-conf_code conf.NoMemory = 5
+abbrev pub conf_exit_status : ConfRefusal → ℕ
+conf_exit_status conf.Site = 4
+conf_exit_status conf.Absent = 3
+conf_exit_status (conf.Bad file why) = 3
+conf_exit_status conf.NoMemory = 5
 
 -- the key of machines
 abbrev pub machine_text : MachineKey → List ℕ
@@ -105,10 +102,10 @@ bad_conf_text (bad.BadValue key) = codes ": bad value of " ++ table_key_text key
 
 -- the line where the configuration is refused
 abbrev pub conf_text : ConfRefusal → List ℕ
-conf_text conf.Site = file_text
+conf_text conf.Site = project_file_text
 conf_text conf.Absent = codes "testr: no .testr.conf or .stestr.conf\n"
 conf_text (conf.Bad file why) = codes "testr: " ++ conf_file_text file ++ bad_conf_text why
-conf_text conf.NoMemory = short_text
+conf_text conf.NoMemory = memory_text
 
 -- ---- patterns
 
@@ -126,14 +123,14 @@ abbrev pub end_of_pattern : List ℕ → List ℕ
 end_of_pattern pattern = if has_look_around pattern then codes "\ntestr: look-around is not known; --exclude-regex leaves tests out\n" else codes "\n"
 
 -- the exit status where a pattern is refused: 3 for a bad one, 5 where memory was wanting
-abbrev pub pattern_code : PatternRefusal → ℕ
-pattern_code (pattern.Bad given) = 3
-pattern_code pattern.NoMemory = 5
+abbrev pub pattern_exit_status : PatternRefusal → ℕ
+pattern_exit_status (pattern.Bad given) = 3
+pattern_exit_status pattern.NoMemory = 5
 
 -- the line where a pattern is refused
 abbrev pub pattern_text : PatternRefusal → List ℕ
 pattern_text (pattern.Bad given) = codes "testr: bad pattern: " ++ given.now ++ end_of_pattern given.now
-pattern_text pattern.NoMemory = short_text
+pattern_text pattern.NoMemory = memory_text
 
 -- the line where a line of a list is no pattern
 abbrev pub bad_line_text : BadLine → List ℕ
@@ -143,49 +140,49 @@ bad_line_text line = codes "testr: " ++ pattern_place_text line.name.now line.nu
 
 -- the exit status where a list is refused: 3 where its file is missing or too long or has a bad line, 4 where a read
 -- failed, 5 where memory was wanting
-abbrev pub list_code : ListRefusal → ℕ
-list_code load_list.Site = 4
-list_code (load_list.TooLong given) = 3
-list_code (load_list.Absent given) = 3
-list_code (load_list.NotId given number) = 3
-list_code load_list.NoMemory = 5
+abbrev pub list_exit_status : ListRefusal → ℕ
+list_exit_status load_list.Site = 4
+list_exit_status (load_list.TooLong given) = 3
+list_exit_status (load_list.Absent given) = 3
+list_exit_status (load_list.NotId given number) = 3
+list_exit_status load_list.NoMemory = 5
 
 -- the line where a list is refused
 abbrev pub list_text : ListRefusal → List ℕ
-list_text load_list.Site = file_text
+list_text load_list.Site = project_file_text
 list_text (load_list.TooLong given) = long_text given.now
 list_text (load_list.Absent given) = codes "testr: no file " ++ given.now ++ codes "\n"
 list_text (load_list.NotId given number) = codes "testr: " ++ place_text given.now number ++ codes ": not an id\n"
-list_text load_list.NoMemory = short_text
+list_text load_list.NoMemory = memory_text
 
 -- ---- a file of times
 
 -- the exit status where a file of times is refused: 3 where it is missing, too long or no times, 4 where a read failed,
 -- 5 where memory was wanting
-abbrev pub times_code : TimesRefusal → ℕ
-times_code times_file.Site = 4
-times_code (times_file.TooLong given) = 3
-times_code (times_file.Absent given) = 3
-times_code (times_file.NotTimes given) = 3
-times_code times_file.NoMemory = 5
+abbrev pub times_exit_status : TimesRefusal → ℕ
+times_exit_status times_file.Site = 4
+times_exit_status (times_file.TooLong given) = 3
+times_exit_status (times_file.Absent given) = 3
+times_exit_status (times_file.NotTimes given) = 3
+times_exit_status times_file.NoMemory = 5
 
 -- the line where a file of times is refused
 abbrev pub times_text : TimesRefusal → List ℕ
-times_text times_file.Site = file_text
+times_text times_file.Site = project_file_text
 times_text (times_file.TooLong given) = long_text given.now
 times_text (times_file.Absent given) = codes "testr: no file " ++ given.now ++ codes "\n"
 times_text (times_file.NotTimes given) = codes "testr: " ++ given.now ++ codes " is no times\n"
-times_text times_file.NoMemory = short_text
+times_text times_file.NoMemory = memory_text
 
 -- ---- the number of workers
 
 -- the exit status where the number of workers is not called out: 3 where none was told, 4 where the program was not
 -- started or read, 5 where memory was wanting
-abbrev pub call_code : CallRefusal → ℕ
-call_code call.Spawn = 4
-call_code call.Child = 4
-call_code (call.NoNumber said) = 3
-call_code call.NoMemory = 5
+abbrev pub call_exit_status : CallRefusal → ℕ
+call_exit_status call.Spawn = 4
+call_exit_status call.Child = 4
+call_exit_status (call.NoNumber said) = 3
+call_exit_status call.NoMemory = 5
 
 -- what the program said that was to call the number out, where it told none
 abbrev pub call_said : CallRefusal → List ℕ
@@ -197,20 +194,20 @@ abbrev pub call_text : CallRefusal → List ℕ
 call_text call.Spawn = spawn_text
 call_text call.Child = child_text
 call_text (call.NoNumber said) = codes "testr: test_run_concurrency gave no number\n"
-call_text call.NoMemory = short_text
+call_text call.NoMemory = memory_text
 
 -- the exit status where the table of processors is refused: 3 where it is too long, 4 where a read failed, 5 where
 -- memory was wanting
-abbrev pub table_code : TableRefusal → ℕ
-table_code table.Site = 4
-table_code table.TooLong = 3
-table_code table.NoMemory = 5
+abbrev pub table_exit_status : TableRefusal → ℕ
+table_exit_status table.Site = 4
+table_exit_status table.TooLong = 3
+table_exit_status table.NoMemory = 5
 
 -- the line where the table of processors is refused
 abbrev pub table_text : TableRefusal → List ℕ
-table_text table.Site = file_text
+table_text table.Site = project_file_text
 table_text table.TooLong = codes "testr: /proc/cpuinfo is too long\n"
-table_text table.NoMemory = short_text
+table_text table.NoMemory = memory_text
 
 -- ---- the listing, and the jobs
 
@@ -221,12 +218,12 @@ key_text key.ListOption = codes "testr: .testr.conf: test_list_option is needed\
 
 -- the exit status where the tests are not listed: 3 where the listing failed or has no option, 4 where the program was
 -- not started or read, 5 where memory was wanting
-abbrev pub listing_code : ListingRefusal → ℕ
-listing_code listing.NoListOption = 3
-listing_code listing.Spawn = 4
-listing_code listing.Child = 4
-listing_code (listing.Failed status said) = 3
-listing_code listing.NoMemory = 5
+abbrev pub listing_exit_status : ListingRefusal → ℕ
+listing_exit_status listing.NoListOption = 3
+listing_exit_status listing.Spawn = 4
+listing_exit_status listing.Child = 4
+listing_exit_status (listing.Failed status said) = 3
+listing_exit_status listing.NoMemory = 5
 
 -- what the listing said that failed
 abbrev pub listing_said : ListingRefusal → List ℕ
@@ -234,56 +231,56 @@ listing_said (listing.Failed status said) = said
 listing_said fault = []
 
 -- the line where the tests are not listed
-abbrev pub listing_text : ListingRefusal → List ℕ
-listing_text listing.NoListOption = key_text key.ListOption
-listing_text listing.Spawn = spawn_text
-listing_text listing.Child = child_text
-listing_text (listing.Failed status said) = codes "testr: listing ended with " ++ signed_decimal status ++ codes "\n"
-listing_text listing.NoMemory = short_text
+abbrev pub listing_refusal_text : ListingRefusal → List ℕ
+listing_refusal_text listing.NoListOption = key_text key.ListOption
+listing_refusal_text listing.Spawn = spawn_text
+listing_refusal_text listing.Child = child_text
+listing_refusal_text (listing.Failed status said) = codes "testr: listing ended with " ++ signed_decimal status ++ codes "\n"
+listing_refusal_text listing.NoMemory = memory_text
 
 -- the exit status where a job is not made: 3 where the configuration lacks an option for it, 5 where memory was wanting
-abbrev pub job_code : JobFault → ℕ
-job_code (job.NoOption which) = 3
-job_code job.NoMemory = 5
+abbrev pub job_exit_status : JobFault → ℕ
+job_exit_status (job.NoOption which) = 3
+job_exit_status job.NoMemory = 5
 
 -- the line where a job is not made
 abbrev pub job_text : JobFault → List ℕ
 job_text (job.NoOption which) = key_text which
-job_text job.NoMemory = short_text
+job_text job.NoMemory = memory_text
 
 -- ---- the workers
 
 -- the exit status where the workers are not started: 4 where a start failed, 5 where memory was wanting
-abbrev pub start_code : StartRefusal → ℕ
-start_code start.Spawn = 4
-start_code start.NoMemory = 5
+abbrev pub start_exit_status : StartRefusal → ℕ
+start_exit_status start.Spawn = 4
+start_exit_status start.NoMemory = 5
 
 -- the line where the workers are not started
 abbrev pub start_text : StartRefusal → List ℕ
 start_text start.Spawn = spawn_text
-start_text start.NoMemory = short_text
+start_text start.NoMemory = memory_text
 
 -- the exit status where the lanes are not recorded: 4 where a call of the folder failed, 5 where memory was wanting
-abbrev pub lanes_code : LanesRefusal → ℕ
-lanes_code (lanes.Shelf which) = 4
-lanes_code lanes.NoMemory = 5
+abbrev pub lanes_exit_status : LanesRefusal → ℕ
+lanes_exit_status (lanes.Shelf which) = 4
+lanes_exit_status lanes.NoMemory = 5
 
 -- the line where the lanes are not recorded
 abbrev pub lanes_text : LanesRefusal → List ℕ
 lanes_text (lanes.Shelf which) = codes "testr: fault of the repository folder\n"
-lanes_text lanes.NoMemory = short_text
+lanes_text lanes.NoMemory = memory_text
 
 -- ---- the search for causes
 
 -- the exit status where a search comes to no verdict: 4 where a probe was not started or read, 5 where memory was
 -- wanting
-abbrev pub search_code : SearchFault → ℕ
-search_code search_fault.Spawn = 4
-search_code search_fault.Child = 4
-search_code search_fault.NoMemory = 5
+abbrev pub search_exit_status : SearchFault → ℕ
+search_exit_status search_fault.Spawn = 4
+search_exit_status search_fault.Child = 4
+search_exit_status search_fault.NoMemory = 5
 
 -- the line where a search comes to no verdict
 abbrev pub search_text : SearchFault → List ℕ
 search_text search_fault.Spawn = spawn_text
 search_text search_fault.Child = child_text
-search_text search_fault.NoMemory = short_text
+search_text search_fault.NoMemory = memory_text

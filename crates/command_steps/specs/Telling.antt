@@ -1,9 +1,9 @@
 -- A line in parts.
 use Rattle.std.specs.Prelude.{ℕ, List, [], ◌++◌, codes}
 use Rattle.std.specs.Fmt.{decimal, signed_decimal}
-use Rattle.command_steps.specs.declared.telling.Part.{Part}
-use Rattle.command_steps.specs.declared.telling.Part.TheVariants.{Nothing, Number, Status, Name, Place, Pattern}
-use Rattle.command_steps.specs.declared.telling.Line.{Line}
+use Rattle.command_steps.specs.declared.refusal_line.Part.{Part}
+use Rattle.command_steps.specs.declared.refusal_line.Part.TheVariants.{Nothing, Number, Status, Name, Place, Pattern}
+use Rattle.command_steps.specs.declared.refusal_line.Line.{Line}
 
 -- a line of a file, by its number
 abbrev pub place_text : (name : List ℕ) → (number : ℕ) → List ℕ

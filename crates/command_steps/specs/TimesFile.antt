@@ -12,21 +12,21 @@ use Rattle.command_steps.specs.declared.times_file.TimesRefusal.{TimesRefusal}
 use Rattle.command_steps.specs.declared.times_file.TimesRefusal.TheVariants.{Site, TooLong, Absent, NotTimes, NoMemory}
 
 -- the file of this name is there with these bytes, which are no more than it may have
-pub record HasBytes (files : Files) (name bytes : List ℕ) : Type 0 where
+pub record HasTimesFile (files : Files) (name bytes : List ℕ) : Type 0 where
   pub there : files name ≡ Some bytes
   pub short : length bytes ≤ MOST_TIMES
 
 -- it is there, is not too long, and holds these times in the form of their cache, of however many runs
 pub record IsTimesFile (name : List ℕ) (times : FinMap text_cmp ℕ) (files : Files) : Type 0 where
   pub bytes : List ℕ
-  pub has : HasBytes files name bytes
+  pub has : HasTimesFile files name bytes
   pub covers : ℕ
   pub form : IsTimesCache bytes covers times
 
 -- it is there, is not too long, and has another form
 pub record HasNoTimes (name : List ℕ) (files : Files) : Type 0 where
   pub bytes : List ℕ
-  pub has : HasBytes files name bytes
+  pub has : HasTimesFile files name bytes
   pub other : (covers : ℕ) (times : FinMap text_cmp ℕ) → IsTimesCache bytes covers times → ⊥
 
 -- it is there, and has more bytes
@@ -59,18 +59,18 @@ times_failed (Err (NotTimes given)) = false
 times_failed (Err NoMemory) = false
 
 -- it is refused before its form is looked at
-abbrev pub IsUnread : TimesRefusal → Type 0
-IsUnread Site = ⊤
-IsUnread (TooLong given) = ⊤
-IsUnread (Absent given) = ⊤
-IsUnread (NotTimes given) = ⊥
-IsUnread NoMemory = ⊤
+abbrev pub IsTimesFileUnread : TimesRefusal → Type 0
+IsTimesFileUnread Site = ⊤
+IsTimesFileUnread (TooLong given) = ⊤
+IsTimesFileUnread (Absent given) = ⊤
+IsTimesFileUnread (NotTimes given) = ⊥
+IsTimesFileUnread NoMemory = ⊤
 
 -- The reading of the bytes of the file of this name. What it says of files holds where they are told.
 pub record ReadsBytes (name : List ℕ) (before after : Seen Files) (result : Result (Vec ℕ Global) TimesRefusal) : Type 0 where
-  pub bytes : IfOk result (λ bytes. IfSome before.told (λ files. HasBytes files name bytes.items))
+  pub bytes : IfOk result (λ bytes. IfSome before.told (λ files. HasTimesFile files name bytes.items))
   pub refused : IfErr result (λ refusal. IfSome before.told (HasTimesCause name refusal))
-  pub unread : IfErr result IsUnread
+  pub unread : IfErr result IsTimesFileUnread
   pub named : IfErr result (NamesTimes name)
   pub same : after.told ≡ before.told
   pub count : RisesExactlyIf before.faults after.faults (times_failed result)

@@ -9,9 +9,9 @@ use Rattle.run_ledger.specs.declared.fault.LedgerFault.TheVariants as ledger_fau
 use Rattle.command_steps.specs.Says.{SaysOfFolder}
 use Rattle.testr_words.specs.declared.command.Question.{Question}
 use Rattle.command_steps.specs.declared.answer.Verdict.{Verdict}
-use Rattle.command_steps.specs.declared.told.Told.{Told}
-use Rattle.command_steps.specs.declared.told.TellFault.{TellFault}
-use Rattle.command_steps.specs.declared.told.TellFault.TheVariants.{Shelf, NoMemory}
+use Rattle.command_steps.specs.declared.question_answers.Told.{Told}
+use Rattle.command_steps.specs.declared.question_answers.TellFault.{TellFault}
+use Rattle.command_steps.specs.declared.question_answers.TellFault.TheVariants.{Shelf, NoMemory}
 
 -- the text and the verdict are what this says of the folder
 abbrev pub TellsSo : (Folder → List ℕ → Verdict → Type 0) → Told → Folder → Type 0
@@ -37,15 +37,15 @@ fault_of_ledger (ledger_fault.Store fault) = Shelf
 fault_of_ledger ledger_fault.NoMemory = NoMemory
 
 -- The answer is that of the folder, which stays.
-pub record Finds (question : Question) (before after : Seen Folder) (result : Result Told TellFault) : Type 0 where
+pub record FindsAnswer (question : Question) (before after : Seen Folder) (result : Result Told TellFault) : Type 0 where
   pub answers : IfOk result (λ told. IfSome before.told (IsAnswer question told))
   pub same : Goes before.told after.told Stays
   pub count : RisesExactlyIf before.faults after.faults (tell_failed result)
 
 -- the exit status where the runs do not tell: 4 where a call of the folder failed, 5 where memory was wanting
-abbrev pub tell_code : TellFault → ℕ
-tell_code Shelf = 4
-tell_code NoMemory = 5
+abbrev pub tell_exit_status : TellFault → ℕ
+tell_exit_status Shelf = 4
+tell_exit_status NoMemory = 5
 
 -- the line where the runs do not tell
 abbrev pub tell_text : TellFault → List ℕ

@@ -24,15 +24,15 @@ upgraded_text count = codes "upgraded " ++ decimal count ++ codes " runs\n"
 
 -- the exit status where a folder was not upgraded: 3 by what it holds, 4 where a call of it failed, 5 where memory was
 -- wanting
-abbrev pub upgrade_code : UpgradeFault → ℕ
-upgrade_code upgrade_fault.NoStore = 3
-upgrade_code upgrade_fault.NotOld = 3
-upgrade_code upgrade_fault.UnknownFormat = 3
-upgrade_code upgrade_fault.BadCount = 3
-upgrade_code (upgrade_fault.BadRun number) = 3
-upgrade_code upgrade_fault.BadFailing = 3
-upgrade_code (upgrade_fault.Shelf call) = 4
-upgrade_code upgrade_fault.NoMemory = 5
+abbrev pub upgrade_exit_status : UpgradeFault → ℕ
+upgrade_exit_status upgrade_fault.NoStore = 3
+upgrade_exit_status upgrade_fault.NotOld = 3
+upgrade_exit_status upgrade_fault.UnknownFormat = 3
+upgrade_exit_status upgrade_fault.BadCount = 3
+upgrade_exit_status (upgrade_fault.BadRun number) = 3
+upgrade_exit_status upgrade_fault.BadFailing = 3
+upgrade_exit_status (upgrade_fault.Shelf call) = 4
+upgrade_exit_status upgrade_fault.NoMemory = 5
 
 -- the line where a folder was not upgraded
 abbrev pub upgrade_text : UpgradeFault → List ℕ

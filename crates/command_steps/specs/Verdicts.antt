@@ -11,6 +11,6 @@ abbrev pub verdict_of : List Row → Verdict
 verdict_of rows = if list_any row_fails rows then Failed else Passed
 
 -- the exit status of a verdict: 0 where the tests passed, 1 where one failed
-abbrev pub verdict_code : Verdict → ℕ
-verdict_code Passed = 0
-verdict_code Failed = 1
+abbrev pub verdict_exit_status : Verdict → ℕ
+verdict_exit_status Passed = 0
+verdict_exit_status Failed = 1

@@ -9,8 +9,8 @@ use Rattle.command_steps.specs.Refreshing.{Refreshes}
 use Rattle.command_steps.specs.Selecting.{Planned}
 use Rattle.command_steps.specs.Steps.{Step, Then, Gives, At}
 use Rattle.command_steps.specs.Store.{Begins, Keeps}
-use Rattle.command_steps.specs.declared.working.Kept.{Kept}
-use Rattle.command_steps.specs.declared.working.Ran.{Ran}
+use Rattle.command_steps.specs.declared.worker_run.Kept.{Kept}
+use Rattle.command_steps.specs.declared.worker_run.Ran.{Ran}
 use Rattle.command_steps.specs.declared.answer.Refusal.{Refusal}
 use Rattle.command_steps.specs.declared.answer.Refusal.TheVariants.{Start, Lanes, Keep, Refresh}
 

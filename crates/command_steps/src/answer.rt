@@ -3,19 +3,20 @@
 ghost use Rattle.std.specs.Prelude.{◌≡◌};
 ghost use Rattle.command_steps.specs.Telling.{line_text};
 
-use crate::copying::CopyFault;
-use crate::planning::LongId;
-use crate::recording::RecordFault;
-use crate::reporting::PrintFault;
-use crate::selecting::FurtherRefusal;
+use crate::input_recorder::RecordFault;
+use crate::question_answers::TellFault;
+use crate::refusal_line::{Line, Refuses};
+use crate::run_copy::CopyFault;
+use crate::run_report::PrintFault;
 use crate::store::{KeepFault, RunsFault};
 use crate::suite_refusals::{
-    call_code, call_line, call_said, listing_code, listing_line, listing_said, pattern_line,
+    call_exit_status, call_line, call_said, listing_exit_status, listing_line, listing_said,
+    pattern_line,
 };
-use crate::telling::{Line, Refuses};
+use crate::test_selection::FurtherRefusal;
 use crate::times_file::TimesRefusal;
-use crate::told::TellFault;
 use crate::usage::UsageFault;
+use crate::work_plan::LongId;
 use old_upgrade::UpgradeFault;
 use run_shelf::{InitFault, OpenFault};
 use sub_number::NoMemory;
@@ -37,11 +38,11 @@ pub enum Verdict {
 }
 
 impl Verdict {
-    ghost use Rattle.command_steps.specs.Verdicts.{verdict_code};
+    ghost use Rattle.command_steps.specs.Verdicts.{verdict_exit_status};
 
     /// The exit status: 0 or 1.
-    pub fn code(self) -> u8
-        ensures { result ≡ verdict_code self }
+    pub fn exit_status(self) -> u8
+        ensures { result ≡ verdict_exit_status self }
     {
         match self {
             Verdict::Passed => 0,
@@ -329,33 +330,34 @@ impl<'a> From<UpgradeFault> for Refusal<'a> {
 }
 
 impl<'a> Refusal<'a> {
-    ghost use Rattle.command_steps.specs.Refusals.{refusal_code, refusal_said, refusal_line};
+    ghost use Rattle.command_steps.specs.Refusals.{refusal_exit_status, refusal_said, refusal_line};
 
     /// The exit status: 2 for words, 3 for a named refusal, 4 for a fault of the outside, 5 for want of memory.
-    pub fn code(&self) -> u8
-        ensures { result ≡ refusal_code self.now }
+    pub fn exit_status(&self) -> u8
+        ensures { result ≡ refusal_exit_status self.now }
     {
         match self {
             Refusal::Usage(_) => 2,
-            Refusal::Init(fault) => (*fault).code(),
-            Refusal::Open(fault) => (*fault).code(),
+            Refusal::Init(fault) => (*fault).exit_status(),
+            Refusal::Open(fault) => (*fault).exit_status(),
             Refusal::Runs(_) | Refusal::PatternLine(_) | Refusal::LongId(_) => 3,
-            Refusal::Record(fault) => (*fault).code(),
-            Refusal::Refresh(fault) | Refusal::Tell(fault) | Refusal::Ran(fault) => (*fault).code(),
+            Refusal::Record(fault) => (*fault).exit_status(),
+            Refusal::Refresh(fault) | Refusal::Tell(fault) | Refusal::Ran(fault) =>
+                (*fault).exit_status(),
             Refusal::Keep(_) | Refusal::Print(_) => 4,
             Refusal::Memory(_) | Refusal::Report(_) | Refusal::Suspects(_) => 5,
-            Refusal::Conf(refusal) => (*refusal).code(),
-            Refusal::Pattern(refusal) => (*refusal).code(),
-            Refusal::LoadList(refusal) => (*refusal).code(),
-            Refusal::TimesFile(refusal) => (*refusal).code(),
-            Refusal::Call(refusal) => call_code(refusal),
-            Refusal::Table(refusal) => (*refusal).code(),
-            Refusal::Listing(refusal) => listing_code(refusal),
-            Refusal::Job(fault) => (*fault).code(),
-            Refusal::Start(refusal) => (*refusal).code(),
-            Refusal::Lanes(refusal) => (*refusal).code(),
-            Refusal::Search(fault) => (*fault).code(),
-            Refusal::Upgrade(fault) => (*fault).code(),
+            Refusal::Conf(refusal) => (*refusal).exit_status(),
+            Refusal::Pattern(refusal) => (*refusal).exit_status(),
+            Refusal::LoadList(refusal) => (*refusal).exit_status(),
+            Refusal::TimesFile(refusal) => (*refusal).exit_status(),
+            Refusal::Call(refusal) => call_exit_status(refusal),
+            Refusal::Table(refusal) => (*refusal).exit_status(),
+            Refusal::Listing(refusal) => listing_exit_status(refusal),
+            Refusal::Job(fault) => (*fault).exit_status(),
+            Refusal::Start(refusal) => (*refusal).exit_status(),
+            Refusal::Lanes(refusal) => (*refusal).exit_status(),
+            Refusal::Search(fault) => (*fault).exit_status(),
+            Refusal::Upgrade(fault) => (*fault).exit_status(),
         }
     }
 

@@ -17,14 +17,14 @@ ghost use Rattle.command_steps.specs.Verdicts.{verdict_of};
 ghost use Rattle.command_steps.specs.declared.answer.Verdict.TheVariants.{Passed};
 
 use crate::Refusal;
-use crate::printing::print_line;
-use crate::told::{TellFault, hand_back, ledger_refusal};
+use crate::question_answers::{TellFault, hand_back, ledger_refusal};
+use crate::report_printer::print_cause_line;
 use edge_io::{Shelf, Sink, Spawner};
 use outcome_fold::Summary;
 use run_shelf::{Found, Store};
 use std::alloc::Global;
 use sub_number::{IdList, NoMemory, Text};
-use suite_causes::{Suspect, cause_line, count_before, ran_ids, search, suspects_of};
+use suite_causes::{Suspect, cause_line, count_before, ran_ids, search_cause, suspects_of};
 use testr_conf::Conf;
 
 /// Looks for what makes each test fail that failed in the run of this number, whose rows were summed up so: one after another, each
@@ -201,10 +201,10 @@ fn find_among<S: Spawner, O: Sink>(
         result }
 {
     let count = count_before(ids, test);
-    let found = match search(alloc, conf, spawner, ids, count, test) {
+    let found = match search_cause(alloc, conf, spawner, ids, count, test) {
         Ok(found) => found,
         Err(fault) => return Err(Refusal::Search(fault)),
     };
-    print_line(out, &cause_line(test, ids, count, found))?;
+    print_cause_line(out, &cause_line(test, ids, count, found))?;
     Ok(())
 }

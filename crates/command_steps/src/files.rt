@@ -8,21 +8,21 @@ ghost use Rattle.run_shelf.specs.Drafts.{SameButDraft};
 ghost use Rattle.stream_reader.specs.Room.{most_held};
 ghost use Rattle.suite_run.specs.Summed.{GivesSums};
 ghost use Rattle.suite_run.specs.Aloud.{sinks};
-ghost use Rattle.command_steps.specs.Hearing.{Answers, Closes, HearsMore, MayStop};
+ghost use Rattle.command_steps.specs.Hearing.{AnswersRecording, ClosesRecording, HearsMore, MayStop};
 ghost use Rattle.command_steps.specs.Speaking.{WritesAloud, SaysPart};
 ghost use Rattle.command_steps.specs.Files.{RecordsSources, HearsSources, summary_of, RecordsInTurn, RecordsFile, RecordsFilePieces, HasFileCause, HasFilesCause};
 ghost use Rattle.command_steps.specs.Outside.{work, filed};
 ghost use Rattle.worker_lane.specs.Scribing.{Recording};
 
-use crate::recording::{RecordFault, record, write_packets};
-use crate::speaking::Silenced;
+use crate::input_recorder::{RecordFault, record_input, write_packets};
+use crate::live_lines::Silenced;
 use edge_io::{Found, MOST_BYTES, PIECE, Shelf, Sink, Site, Source};
 use outcome_fold::Summary;
 use packet_codec::Tags;
 use std::alloc::Global;
 use std::str;
 use sub_number::{IdList, Text};
-use suite_run::{Closed, Ear, Hearing, Shown};
+use suite_run::{Closed, Hearing, RunListener, Shown};
 use worker_lane::Scribe;
 use worker_mux::Listener;
 
@@ -62,7 +62,7 @@ pub fn record_sources<'a, H: Shelf, F: Site, I: Source, E: Sink, O: Sink>(
     ensures aloud { IfOk result (λ recorded. WritesAloud shown [] (H.seen shelf.old).told (H.seen shelf.new).told (sinks (E.seen errors.old) (O.seen out.old)) (sinks (E.seen errors.new) (O.seen out.new)) silenced.new recorded.end.items recorded.summary) }
     ensures some { IfErr result (λ _. SaysPart shown (sinks (E.seen errors.old) (O.seen out.old)) (sinks (E.seen errors.new) (O.seen out.new)) silenced.new) }
 {
-    let mut ear = Ear {
+    let mut ear = RunListener {
         hearing: Hearing::new(alloc, Tags::new(alloc), shown.live),
         echo: shown.echo,
         errors,
@@ -71,7 +71,7 @@ pub fn record_sources<'a, H: Shelf, F: Site, I: Source, E: Sink, O: Sink>(
         out_failed: false,
     };
     let done = record_heard(alloc, names, shelf, site, input, &mut ear);
-    let Ear {
+    let RunListener {
         hearing,
         echo: _,
         errors,
@@ -91,7 +91,7 @@ fn answer_of<'a>(
     done: Result<(), RecordFault<'a>>,
     hearing: Hearing,
 ) -> Result<Recorded, RecordFault<'a>>
-    ensures { Answers done.entry hearing result }
+    ensures { AnswersRecording done.entry hearing result }
 {
     match done {
         Ok(()) => close(hearing),
@@ -101,7 +101,7 @@ fn answer_of<'a>(
 
 // What was heard, closed.
 fn close(hearing: Hearing) -> Result<Recorded, RecordFault<'static>>
-    ensures { Closes hearing result }
+    ensures { ClosesRecording hearing result }
 {
     let Closed { summary, end } = hearing.close()?;
     Ok(Recorded { summary, end })
@@ -132,7 +132,7 @@ fn record_heard<'a, H: Shelf, F: Site, I: Source, L: Listener>(
     ensures stops { MayStop L.heard L.keeps listener.old listener.new }
 {
     match names.list() {
-        [] => record(alloc, shelf, input, listener),
+        [] => record_input(alloc, shelf, input, listener),
         list => record_each(alloc, list, shelf, site, listener),
     }
 }

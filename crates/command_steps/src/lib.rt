@@ -6,59 +6,60 @@
 //!
 //! For want of memory a call refuses so, and for nothing else; what it did outside by then stands, and its status is 5.
 //!
-//! - `store`, `refreshing`: the folder: made, opened, a run begun and kept, the caches brought up to it
-//! - `recording`, `files`: what is recorded of the input, or of files
-//! - `told`, `asking`, `copying`: what is told of the runs, and a run's bytes
-//! - `reporting`, `printing`: the report of a run, made and printed
-//! - `speaking`: what is said of a run while it goes on
+//! - `store`, `cache_refresh`: the folder: made, opened, a run begun and kept, the caches brought up to it
+//! - `input_recorder`, `files`: what is recorded of the input, or of files
+//! - `question_answers`, `ledger_queries`, `run_copy`: what is told of the runs, and a run's bytes
+//! - `run_report`, `report_printer`: the report of a run, made and printed
+//! - `live_lines`: what is said of a run while it goes on
 //! - `times_file`: times that a file holds
-//! - `selecting`, `planning`, `working`: which tests run, what each worker is started with, and the workers themselves
-//! - `upgrading`: a folder of the original tool, made a repository
+//! - `test_selection`, `work_plan`, `worker_run`: which tests run, what each worker is started with, and the workers themselves
+//! - `folder_upgrade`: a folder of the original tool, made a repository
 //! - `causes`: which test makes another one fail
 //! - `answer`, `usage`, `suite_refusals`: the verdict of a command, and the refusals by step
-//! - `telling`: the lines that tell of them
+//! - `refusal_line`: the lines that tell of them
 //!
 //! Its tests stand in rooms of their own above `testr_cli`, `load_trials` and `run_trials`.
 #![tactic(auto)]
 
 mod answer;
-mod asking;
+mod cache_refresh;
 mod causes;
-mod copying;
 mod files;
-mod planning;
-mod printing;
-mod recording;
-mod refreshing;
-mod reporting;
-mod selecting;
-mod speaking;
+mod folder_upgrade;
+mod input_recorder;
+mod ledger_queries;
+mod live_lines;
+mod question_answers;
+mod refusal_line;
+mod report_printer;
+mod run_copy;
+mod run_report;
 mod store;
 mod suite_refusals;
-mod telling;
+mod test_selection;
 mod times_file;
-mod told;
-mod upgrading;
 mod usage;
-mod working;
+mod work_plan;
+mod worker_run;
 
 pub use answer::{Refusal, Verdict};
+pub use cache_refresh::refresh_caches;
 pub use causes::find_causes;
-pub use copying::{CopyFault, copy_last};
 pub use files::{Recorded, record_sources};
-pub use planning::{LongId, WorkPlan, plan};
-pub use printing::print_report;
-pub use recording::RecordFault;
-pub use refreshing::refresh;
-pub use reporting::{Ending, PrintFault, end_report, print, verdict_kept};
-pub use selecting::{Further, FurtherRefusal, Selected, read_further, read_ids, select};
-pub use speaking::{Silenced, say_end};
+pub use folder_upgrade::{print_upgraded, upgrade_folder};
+pub use input_recorder::RecordFault;
+pub use live_lines::{Silenced, say_end};
+pub use question_answers::{TellFault, Told, find_answer};
+pub use refusal_line::{Line, Part, tell_line};
+pub use report_printer::print_report;
+pub use run_copy::{CopyFault, copy_last};
+pub use run_report::{Ending, PrintFault, end_report, print_text, verdict_of_summary};
 pub use store::{
-    KeepFault, RunsFault, begin, have_run, keep, make, make_where_none, open, take_run,
+    KeepFault, RunsFault, check_has_run, check_next_number, keep_run, make_store,
+    make_store_where_none, open_store, start_run,
 };
-pub use telling::{Line, Part, tell};
+pub use test_selection::{Further, FurtherRefusal, Selected, read_further, read_ids, select_tests};
 pub use times_file::{MOST_TIMES, TimesRefusal};
-pub use told::{TellFault, Told, find};
-pub use upgrading::{print_upgraded, upgrade_folder};
 pub use usage::UsageFault;
-pub use working::{Kept, run_workers};
+pub use work_plan::{LongId, WorkPlan, plan_workers};
+pub use worker_run::{Kept, run_workers};

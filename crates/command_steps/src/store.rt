@@ -9,7 +9,7 @@ ghost use Rattle.run_shelf.specs.Repository.{most_runs};
 ghost use Rattle.command_steps.specs.Store.{Makes, MakesWhereNone, Opens, TakesRun, HasRunFor, runs_text, Begins, Keeps, keep_text};
 ghost use Rattle.command_steps.specs.Telling.{line_text};
 
-use crate::telling::{Line, Part, Refuses};
+use crate::refusal_line::{Line, Part, Refuses};
 use edge_io::Shelf;
 use run_shelf::{
     Found, InitFault, MOST_RUNS, OpenFault, ShelfCall, begin_run, finish_run, make_repository,
@@ -19,17 +19,17 @@ use std::alloc::Global;
 use testr_words::Question;
 
 /// Makes a repository. It takes no memory.
-pub fn make<H: Shelf>(shelf: &mut H) -> Result<(), InitFault>
+pub fn make_store<H: Shelf>(shelf: &mut H) -> Result<(), InitFault>
     ensures { Makes (H.seen shelf.old) (H.seen shelf.new) result }
 {
     make_repository(shelf)
 }
 
 /// Makes a repository where there is none. Where `format` is there, whatever it holds, it stays. It takes no memory.
-pub fn make_where_none<H: Shelf>(shelf: &mut H) -> Result<(), InitFault>
+pub fn make_store_where_none<H: Shelf>(shelf: &mut H) -> Result<(), InitFault>
     ensures { MakesWhereNone (H.seen shelf.old) (H.seen shelf.new) result }
 {
-    match make(shelf) {
+    match make_store(shelf) {
         Ok(()) => Ok(()),
         Err(InitFault::Exists) => Ok(()),
         Err(InitFault::Shelf(call)) => Err(InitFault::Shelf(call)),
@@ -37,13 +37,13 @@ pub fn make_where_none<H: Shelf>(shelf: &mut H) -> Result<(), InitFault>
 }
 
 impl<'a> Refuses<'a> for InitFault {
-    ghost use Rattle.command_steps.specs.Store.{init_code, init_text};
+    ghost use Rattle.command_steps.specs.Store.{init_exit_status, init_text};
 
-    ghost status = { init_code };
+    ghost status = { init_exit_status };
 
     ghost text = { init_text };
 
-    fn code(self) -> u8 {
+    fn exit_status(self) -> u8 {
         match self {
             InitFault::Exists => 3,
             InitFault::Shelf(_) => 4,
@@ -59,7 +59,7 @@ impl<'a> Refuses<'a> for InitFault {
 }
 
 /// Looks which runs the repository has, in at most four calls of the folder, and two more under the second format.
-pub fn open<H: Shelf>(alloc: Global, shelf: &mut H) -> Result<Found, OpenFault>
+pub fn open_store<H: Shelf>(alloc: Global, shelf: &mut H) -> Result<Found, OpenFault>
     ensures step { Opens (H.seen shelf.old) (H.seen shelf.new) result }
     ensures time { TicksUpTo (4 + base_calls (H.seen shelf.old).told) (H.clock shelf.old) (H.clock shelf.new) }
 {
@@ -67,13 +67,13 @@ pub fn open<H: Shelf>(alloc: Global, shelf: &mut H) -> Result<Found, OpenFault>
 }
 
 impl<'a> Refuses<'a> for OpenFault {
-    ghost use Rattle.command_steps.specs.Store.{open_code, open_text};
+    ghost use Rattle.command_steps.specs.Store.{open_exit_status, open_text};
 
-    ghost status = { open_code };
+    ghost status = { open_exit_status };
 
     ghost text = { open_text };
 
-    fn code(self) -> u8 {
+    fn exit_status(self) -> u8 {
         match self {
             OpenFault::NoStore
             | OpenFault::UnknownFormat
@@ -122,7 +122,7 @@ impl RunsFault {
 }
 
 /// There must be a number for a run more.
-pub fn take_run(found: &Found) -> Result<(), RunsFault>
+pub fn check_next_number(found: &Found) -> Result<(), RunsFault>
     ensures { TakesRun (length (kinds_of found.now)) result }
 {
     if found.runs() == MOST_RUNS {
@@ -133,7 +133,7 @@ pub fn take_run(found: &Found) -> Result<(), RunsFault>
 }
 
 /// There must be a run, where the question is of the last one.
-pub fn have_run(question: Question, found: &Found) -> Result<(), RunsFault>
+pub fn check_has_run(question: Question, found: &Found) -> Result<(), RunsFault>
     ensures { HasRunFor question (length (kinds_of found.now)) result }
 {
     if found.runs() == 0 && question.is_of_last_run() {
@@ -160,7 +160,7 @@ impl KeepFault {
 }
 
 /// Begins a run, in one call of the folder.
-pub fn begin<H: Shelf>(shelf: &mut H) -> Result<(), KeepFault>
+pub fn start_run<H: Shelf>(shelf: &mut H) -> Result<(), KeepFault>
     ensures step { Begins (H.seen shelf.old) (H.seen shelf.new) result }
     ensures time { TicksUpTo 1 (H.clock shelf.old) (H.clock shelf.new) }
 {
@@ -172,7 +172,7 @@ pub fn begin<H: Shelf>(shelf: &mut H) -> Result<(), KeepFault>
 
 /// Keeps what was added as the run behind all others, in three calls of the folder at most, and counts it among what was
 /// found.
-pub fn keep<H: Shelf>(shelf: &mut H, found: &mut Found, partial: bool) -> Result<(), KeepFault>
+pub fn keep_run<H: Shelf>(shelf: &mut H, found: &mut Found, partial: bool) -> Result<(), KeepFault>
     requires few { length (kinds_of found.old) < most_runs }
     requires room { HasRoom found.old }
     requires fits { FitsWhereTold (kinds_of found.old) (H.seen shelf.old).told }

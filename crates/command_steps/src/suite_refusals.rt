@@ -2,11 +2,11 @@
 
 ghost use Rattle.std.specs.Prelude.{◌≡◌, ◌++◌, codes};
 ghost use Rattle.std.specs.Fmt.{decimal, signed_decimal};
-ghost use Rattle.command_steps.specs.SuiteTexts.{bad_line_text, end_of_pattern, has_look_around, is_look_around, call_code, call_said, call_text, listing_code, listing_said, listing_text, key_text, machine_text, table_key_text, conf_file_text, bad_conf_text};
+ghost use Rattle.command_steps.specs.SuiteTexts.{bad_line_text, end_of_pattern, has_look_around, is_look_around, call_exit_status, call_said, call_text, listing_exit_status, listing_said, listing_refusal_text, key_text, machine_text, table_key_text, conf_file_text, bad_conf_text};
 ghost use Rattle.command_steps.specs.Telling.{line_text};
 
 use crate::files::name_of;
-use crate::telling::{Line, Part, Refuses};
+use crate::refusal_line::{Line, Part, Refuses};
 use crate::times_file::TimesRefusal;
 use stestr_conf::TableKey;
 use suite_causes::SearchFault;
@@ -26,13 +26,13 @@ const FAULT_OF_A_START: &str = "testr: fault starting a program\n";
 const FAULT_OF_A_CHILD: &str = "testr: fault reading a program\n";
 
 impl<'a> Refuses<'a> for ConfRefusal {
-    ghost use Rattle.command_steps.specs.SuiteTexts.{conf_code, conf_text};
+    ghost use Rattle.command_steps.specs.SuiteTexts.{conf_exit_status, conf_text};
 
-    ghost status = { conf_code };
+    ghost status = { conf_exit_status };
 
     ghost text = { conf_text };
 
-    fn code(self) -> u8 {
+    fn exit_status(self) -> u8 {
         match self {
             ConfRefusal::Absent | ConfRefusal::Bad(_, _) => 3,
             ConfRefusal::Site => 4,
@@ -125,13 +125,13 @@ fn conf_line_at(name: &'static str, number: u32, rest: &'static str) -> Line<'st
 }
 
 impl<'a> Refuses<'a> for PatternRefusal<'a> {
-    ghost use Rattle.command_steps.specs.SuiteTexts.{pattern_code, pattern_text};
+    ghost use Rattle.command_steps.specs.SuiteTexts.{pattern_exit_status, pattern_text};
 
-    ghost status = { pattern_code };
+    ghost status = { pattern_exit_status };
 
     ghost text = { pattern_text };
 
-    fn code(self) -> u8 {
+    fn exit_status(self) -> u8 {
         match self {
             PatternRefusal::Bad(_) => 3,
             PatternRefusal::NoMemory => 5,
@@ -193,13 +193,13 @@ fn is_look_around(bytes: &[u8]) -> bool
 }
 
 impl<'a> Refuses<'a> for ListRefusal<'a> {
-    ghost use Rattle.command_steps.specs.SuiteTexts.{list_code, list_text};
+    ghost use Rattle.command_steps.specs.SuiteTexts.{list_exit_status, list_text};
 
-    ghost status = { list_code };
+    ghost status = { list_exit_status };
 
     ghost text = { list_text };
 
-    fn code(self) -> u8 {
+    fn exit_status(self) -> u8 {
         match self {
             ListRefusal::TooLong(_) | ListRefusal::Absent(_) | ListRefusal::NotId(_, _) => 3,
             ListRefusal::Site => 4,
@@ -231,13 +231,13 @@ impl<'a> Refuses<'a> for ListRefusal<'a> {
 }
 
 impl<'a> Refuses<'a> for TimesRefusal<'a> {
-    ghost use Rattle.command_steps.specs.SuiteTexts.{times_code, times_text};
+    ghost use Rattle.command_steps.specs.SuiteTexts.{times_exit_status, times_text};
 
-    ghost status = { times_code };
+    ghost status = { times_exit_status };
 
     ghost text = { times_text };
 
-    fn code(self) -> u8 {
+    fn exit_status(self) -> u8 {
         match self {
             TimesRefusal::TooLong(_) | TimesRefusal::Absent(_) | TimesRefusal::NotTimes(_) => 3,
             TimesRefusal::Site => 4,
@@ -269,8 +269,8 @@ impl<'a> Refuses<'a> for TimesRefusal<'a> {
 }
 
 // The status where the number of workers was not called out.
-pub(crate) fn call_code(refusal: &CallRefusal) -> u8
-    ensures { result ≡ call_code refusal.now }
+pub(crate) fn call_exit_status(refusal: &CallRefusal) -> u8
+    ensures { result ≡ call_exit_status refusal.now }
 {
     match refusal {
         CallRefusal::NoNumber(_) => 3,
@@ -302,13 +302,13 @@ pub(crate) fn call_line(refusal: &CallRefusal) -> Line<'static>
 }
 
 impl<'a> Refuses<'a> for TableRefusal {
-    ghost use Rattle.command_steps.specs.SuiteTexts.{table_code, table_text};
+    ghost use Rattle.command_steps.specs.SuiteTexts.{table_exit_status, table_text};
 
-    ghost status = { table_code };
+    ghost status = { table_exit_status };
 
     ghost text = { table_text };
 
-    fn code(self) -> u8 {
+    fn exit_status(self) -> u8 {
         match self {
             TableRefusal::TooLong => 3,
             TableRefusal::Site => 4,
@@ -326,8 +326,8 @@ impl<'a> Refuses<'a> for TableRefusal {
 }
 
 // The status where the tests were not listed.
-pub(crate) fn listing_code(refusal: &ListingRefusal) -> u8
-    ensures { result ≡ listing_code refusal.now }
+pub(crate) fn listing_exit_status(refusal: &ListingRefusal) -> u8
+    ensures { result ≡ listing_exit_status refusal.now }
 {
     match refusal {
         ListingRefusal::NoListOption | ListingRefusal::Failed(_, _) => 3,
@@ -351,7 +351,7 @@ pub(crate) fn listing_said(refusal: &ListingRefusal) -> &[u8]
 
 // The line that tells of it.
 pub(crate) fn listing_line(refusal: &ListingRefusal) -> Line<'static>
-    ensures { line_text result ≡ listing_text refusal.now }
+    ensures { line_text result ≡ listing_refusal_text refusal.now }
 {
     match refusal {
         ListingRefusal::NoListOption => key_line(Key::ListOption),
@@ -384,13 +384,13 @@ fn key_line(key: Key) -> Line<'static>
 }
 
 impl<'a> Refuses<'a> for JobFault {
-    ghost use Rattle.command_steps.specs.SuiteTexts.{job_code, job_text};
+    ghost use Rattle.command_steps.specs.SuiteTexts.{job_exit_status, job_text};
 
-    ghost status = { job_code };
+    ghost status = { job_exit_status };
 
     ghost text = { job_text };
 
-    fn code(self) -> u8 {
+    fn exit_status(self) -> u8 {
         match self {
             JobFault::NoOption(_) => 3,
             JobFault::NoMemory => 5,
@@ -406,13 +406,13 @@ impl<'a> Refuses<'a> for JobFault {
 }
 
 impl<'a> Refuses<'a> for StartRefusal {
-    ghost use Rattle.command_steps.specs.SuiteTexts.{start_code, start_text};
+    ghost use Rattle.command_steps.specs.SuiteTexts.{start_exit_status, start_text};
 
-    ghost status = { start_code };
+    ghost status = { start_exit_status };
 
     ghost text = { start_text };
 
-    fn code(self) -> u8 {
+    fn exit_status(self) -> u8 {
         match self {
             StartRefusal::Spawn => 4,
             StartRefusal::NoMemory => 5,
@@ -428,13 +428,13 @@ impl<'a> Refuses<'a> for StartRefusal {
 }
 
 impl<'a> Refuses<'a> for LanesRefusal {
-    ghost use Rattle.command_steps.specs.SuiteTexts.{lanes_code, lanes_text};
+    ghost use Rattle.command_steps.specs.SuiteTexts.{lanes_exit_status, lanes_text};
 
-    ghost status = { lanes_code };
+    ghost status = { lanes_exit_status };
 
     ghost text = { lanes_text };
 
-    fn code(self) -> u8 {
+    fn exit_status(self) -> u8 {
         match self {
             LanesRefusal::Shelf(_) => 4,
             LanesRefusal::NoMemory => 5,
@@ -450,13 +450,13 @@ impl<'a> Refuses<'a> for LanesRefusal {
 }
 
 impl<'a> Refuses<'a> for SearchFault {
-    ghost use Rattle.command_steps.specs.SuiteTexts.{search_code, search_text};
+    ghost use Rattle.command_steps.specs.SuiteTexts.{search_exit_status, search_text};
 
-    ghost status = { search_code };
+    ghost status = { search_exit_status };
 
     ghost text = { search_text };
 
-    fn code(self) -> u8 {
+    fn exit_status(self) -> u8 {
         match self {
             SearchFault::Spawn | SearchFault::Child => 4,
             SearchFault::NoMemory => 5,

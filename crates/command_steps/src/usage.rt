@@ -4,7 +4,7 @@ ghost use Rattle.std.specs.Prelude.{◌≡◌};
 ghost use Rattle.command_steps.specs.Refusals.{usage_text};
 ghost use Rattle.command_steps.specs.Telling.{line_text};
 
-use crate::telling::Line;
+use crate::refusal_line::Line;
 
 /// Why words are no command.
 #[derive(Clone, Copy, Debug, PartialEq, Eq)]

@@ -8,15 +8,15 @@ use Rattle.command_words.specs.declared.item_reader.Meaning.TheVariants as meant
 use Rattle.command_words.specs.Items.{Item, flag, valued, name, Meaning, refused, is_item, asks, meaning_of}
 
 -- the item that the code's item stands for
-abbrev pub shown : code.Item → Item
-shown (code_item.Flag key) = flag key.now
-shown (code_item.Valued key value) = valued key.now value.now
-shown (code_item.Name word) = name word.now
+abbrev pub item_meant : code.Item → Item
+item_meant (code_item.Flag key) = flag key.now
+item_meant (code_item.Valued key value) = valued key.now value.now
+item_meant (code_item.Name word) = name word.now
 
 -- the meaning that the code's meaning stands for
 abbrev pub shown_meaning : code_meaning.Meaning → Meaning
 shown_meaning meant.Refused = refused
-shown_meaning (meant.Is item) = is_item (shown item)
+shown_meaning (meant.Is item) = is_item (item_meant item)
 shown_meaning (meant.Asks key) = asks key.now
 
 -- what a word means behind the option that asks for its value, where there is one

@@ -1,7 +1,7 @@
 -- Words cut into options, values and names (docs/COMMANDS.md, "Words").
 use Rattle.std.specs.Prelude.{ℕ, ◌^◌, Bool, false, not, ◌&&◌, ◌==◌, nat_lt, nat_eq, Option, Some, None, List, [], ◌∷◌, length, map, codes, String, string_bytes, if◌then◌else◌}
-use Rattle.std.specs.List.{list_any, starts_with, before_first, after_first, position_or_len}
-use Rattle.std.specs.Option.{option_map}
+use Rattle.std.specs.List.{list_any, starts_with, before_first, after_first, position_or_len, flat_map}
+use Rattle.std.specs.Option.{option_map, option_to_list}
 use Rattle.std.specs.Str.{bytes_eq}
 use Rattle.std.specs.declared.alloc.Global.{Global}
 use Rattle.command_words.specs.declared.table.Kind.{Kind}
@@ -86,3 +86,19 @@ is_flag key (name word) = false
 -- the option stands among the items, however often
 abbrev pub has_flag : List ℕ → List Item → Bool
 has_flag key items = list_any (is_flag key) items
+
+-- a word that is no option
+abbrev pub name_of : Item → Option (List ℕ)
+name_of (flag given) = None
+name_of (valued option value) = None
+name_of (name word) = Some word
+
+-- the value that the item gives to this option
+abbrev pub value_of : List ℕ → Item → Option (List ℕ)
+value_of option (flag given) = None
+value_of option (valued given value) = if bytes_eq given option then Some value else None
+value_of option (name word) = None
+
+-- the values of this option, in the order of the words
+abbrev pub values_in : List ℕ → List Item → List (List ℕ)
+values_in option items = flat_map (λ item. option_to_list (value_of option item)) items

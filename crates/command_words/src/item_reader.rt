@@ -2,7 +2,7 @@
 
 ghost use Rattle.std.specs.Prelude.{◌≡◌, option_map, map, IfOk};
 ghost use Rattle.command_words.specs.Items.{texts, items_of, meaning_of, option_meaning, option_name, option_value};
-ghost use Rattle.command_words.specs.Code.{shown, shown_meaning, meaning_behind};
+ghost use Rattle.command_words.specs.Code.{item_meant, shown_meaning, meaning_behind};
 
 use crate::item::Item;
 use crate::table::{Kind, OptionTable};
@@ -28,7 +28,7 @@ pub fn read_items<'a, T: OptionTable>(
     table: &T,
     words: &'a [String],
 ) -> Result<Option<Vec<Item<'a>>>, NoMemory>
-    ensures { IfOk result (λ items. option_map (λ items. map shown items.items) items ≡ items_of (T.kinds table.now) (texts words.now)) }
+    ensures { IfOk result (λ items. option_map (λ items. map item_meant items.items) items ≡ items_of (T.kinds table.now) (texts words.now)) }
 {
     let mut items = Vec::new(alloc);
     let mut asked = None;

@@ -2,7 +2,7 @@
 
 ghost use Rattle.std.specs.Prelude.{◌≡◌, ◌<◌, ◌≤◌, ◌+◌, ◌*◌, ◌%◌, ◌++◌, [], List, ℕ, length, take, drop, slice_range, IfOk};
 ghost use Rattle.sub_number.specs.Checksum.{crc32, crc_register};
-ghost use Rattle.crc_parts.specs.Prefixes.{stride, room, AreAlong, HasPrefixes};
+ghost use Rattle.crc_parts.specs.Prefixes.{stride, prefix_room, AreAlong, HasPrefixes};
 
 use crate::part::part_crc;
 use std::alloc::Global;
@@ -33,13 +33,13 @@ pub struct Prefixes {
 
 impl Model for Prefixes {
     ghost use Rattle.std.specs.Prelude.{◌≡◌, ◌≤◌, length};
-    ghost use Rattle.crc_parts.specs.Prefixes.{room, KeptRegisters};
+    ghost use Rattle.crc_parts.specs.Prefixes.{prefix_room, KeptRegisters};
 
     ghost Value = { KeptRegisters };
 
     ghost view = { λ p. record { count = p.count; last = p.last; marks = p.marks.items } };
 
-    ghost invariant = { λ p. (length p.marks.items ≡ 83969) × (p.count ≤ room) };
+    ghost invariant = { λ p. (length p.marks.items ≡ 83969) × (p.count ≤ prefix_room) };
 }
 
 impl Prefixes {
@@ -65,7 +65,7 @@ impl Prefixes {
 
     /// The next bytes.
     pub fn feed(&mut self, piece: &[u8])
-        requires { self.old.count + length piece.now ≤ room }
+        requires { self.old.count + length piece.now ≤ prefix_room }
         ensures { (bytes : List ℕ) → HasPrefixes self.old bytes → HasPrefixes self.new (bytes ++ piece.now) }
     {
         let mut left = piece;
@@ -79,7 +79,7 @@ impl Prefixes {
 
     // The next bytes, up to the next mark at most.
     fn feed_part(&mut self, part: &[u8])
-        requires in_room { self.old.count + length part.now ≤ room }
+        requires in_room { self.old.count + length part.now ≤ prefix_room }
         requires short { self.old.count % stride + length part.now ≤ stride }
         ensures along { (before bytes : List ℕ) → AreAlong self.old before bytes → AreAlong self.new before (bytes ++ part.now) }
         ensures count { self.new.count ≡ self.old.count + length part.now }

@@ -20,27 +20,27 @@ use Rattle.packet_codec.specs.declared.status.Status.{Status}
 use Rattle.packet_codec.specs.declared.status.Status.TheVariants.{InProgress}
 use Rattle.packet_codec.proofs.ShortestLemmas.{length_shortest_number, shortest_size_range}
 use Rattle.packet_codec.proofs.WritingLemmas.{length_canonical_fields}
-use Rattle.drawn_lanes.specs.Outputs.{test_id, drawn_status, drawn_nanos, nanos_fit, none_fit, first_second, drawn_stamp, drawn_event, HasPacket}
+use Rattle.drawn_lanes.specs.Outputs.{test_id, drawn_status, drawn_nanos, drawn_nanos_fit, none_fit, first_second, drawn_stamp, drawn_event, HasLanePacket}
 
 -- ---- as they are made
 
 pub begun_same : (lane test : ℕ) (id : List ℕ) (stamp : Stamp) (event : Event) → id ≡ test_id lane test → stamp ≡ drawn_stamp test 0 none_fit → event ≡ record (drawn_event lane test InProgress 0 none_fit) { stamp = Some stamp; id = Some id } → event ≡ drawn_event lane test InProgress 0 none_fit
 begun_same lane test id stamp event named timed is = is ∙ (λ i. record (drawn_event lane test InProgress 0 none_fit) { stamp = Some (timed i); id = Some (named i) })
 
-pub ended_same : (lane test number : ℕ) (event : Event) (stamp : Stamp) (status : Status) → event ≡ drawn_event lane test InProgress 0 none_fit → stamp ≡ drawn_stamp test (drawn_nanos number) (nanos_fit number) → status ≡ drawn_status number
-    → record event { stamp = Some stamp; status = status } ≡ drawn_event lane test (drawn_status number) (drawn_nanos number) (nanos_fit number)
+pub ended_same : (lane test number : ℕ) (event : Event) (stamp : Stamp) (status : Status) → event ≡ drawn_event lane test InProgress 0 none_fit → stamp ≡ drawn_stamp test (drawn_nanos number) (drawn_nanos_fit number) → status ≡ drawn_status number
+    → record event { stamp = Some stamp; status = status } ≡ drawn_event lane test (drawn_status number) (drawn_nanos number) (drawn_nanos_fit number)
 ended_same lane test number event stamp status is timed ended = λ i. record (is i) { stamp = Some (timed i); status = ended i }
 
 -- ---- their ids are texts
 
-record IsPlain (byte : ℕ) : Type 0 where
+record IsPlainByte (byte : ℕ) : Type 0 where
   some : 0 < byte
   ascii : byte < 128
 
-plain_text : (bytes : List ℕ) → All IsPlain bytes → IsText bytes
+plain_text : (bytes : List ℕ) → All IsPlainByte bytes → IsText bytes
 plain_text bytes all = record {
-  utf8 = IsUtf8-from_ascii bytes (IsAscii-from_all bytes (All-weaker IsPlain (λ byte. byte < 128) (λ byte p. p.ascii) bytes all));
-  no_nul = All-weaker IsPlain (λ byte. byte ≢ 0) (λ byte p same. omega (arith, p.some, same)) bytes all;
+  utf8 = IsUtf8-from_ascii bytes (IsAscii-from_all bytes (All-weaker IsPlainByte (λ byte. byte < 128) (λ byte p. p.ascii) bytes all));
+  no_nul = All-weaker IsPlainByte (λ byte. byte ≢ 0) (λ byte p same. omega (arith, p.some, same)) bytes all;
 }
 
 are_plain : List ℕ → Bool
@@ -51,32 +51,32 @@ both : (a b : Bool) → (a && b) ≡ true → (a ≡ true) × (b ≡ true)
 both true b h = (refl, h)
 both false b h = absurd (grind (arith, h))
 
-plain_by_test : (bytes : List ℕ) → are_plain bytes ≡ true → All IsPlain bytes
+plain_by_test : (bytes : List ℕ) → are_plain bytes ≡ true → All IsPlainByte bytes
 unfolding are_plain
-plain_by_test [] h = All-nil IsPlain
+plain_by_test [] h = All-nil IsPlainByte
 plain_by_test (byte ∷ bytes) h =
     let first = both (nat_lt 0 byte) (nat_lt byte 128 && are_plain bytes) h in
     let second = both (nat_lt byte 128) (are_plain bytes) first.1 in
-    All-cons IsPlain byte bytes (record { some = grind (arith, nat_tests, first.0); ascii = grind (arith, nat_tests, second.0) }) (plain_by_test bytes second.1)
+    All-cons IsPlainByte byte bytes (record { some = grind (arith, nat_tests, first.0); ascii = grind (arith, nat_tests, second.0) }) (plain_by_test bytes second.1)
 
-lane_word : All IsPlain (codes "lane.")
+lane_word : All IsPlainByte (codes "lane.")
 unfolding are_plain
 lane_word = plain_by_test (codes "lane.") refl
 
-test_word : All IsPlain (codes ".test.")
+test_word : All IsPlainByte (codes ".test.")
 unfolding are_plain
 test_word = plain_by_test (codes ".test.") refl
 
-plain_decimal : (n : ℕ) → n < 2 ^ 64 → All IsPlain (decimal n)
-plain_decimal n small = All-from_get_or IsPlain (decimal n) 0 (λ i below.
+plain_decimal : (n : ℕ) → n < 2 ^ 64 → All IsPlainByte (decimal n)
+plain_decimal n small = All-from_get_or IsPlainByte (decimal n) 0 (λ i below.
     let digit = digit_at (decimal n) i (decimal_is_IsNumeral n small).0.1 below in
     record { some = omega (arith, digit.0); ascii = omega (arith, digit.1) })
 
-plain_id : (lane test : ℕ) → lane < 64 → test < 1000000 → All IsPlain (test_id lane test)
+plain_id : (lane test : ℕ) → lane < 64 → test < 1000000 → All IsPlainByte (test_id lane test)
 plain_id lane test small few =
-    let front = All-append IsPlain (codes "lane.") (decimal lane) lane_word (plain_decimal lane (omega (arith, small))) in
-    let middle = All-append IsPlain (codes "lane." ++ decimal lane) (codes ".test.") front test_word in
-    All-append IsPlain (codes "lane." ++ decimal lane ++ codes ".test.") (decimal test) middle (plain_decimal test (omega (arith, few)))
+    let front = All-append IsPlainByte (codes "lane.") (decimal lane) lane_word (plain_decimal lane (omega (arith, small))) in
+    let middle = All-append IsPlainByte (codes "lane." ++ decimal lane) (codes ".test.") front test_word in
+    All-append IsPlainByte (codes "lane." ++ decimal lane ++ codes ".test.") (decimal test) middle (plain_decimal test (omega (arith, few)))
 
 id_length : (lane test : ℕ) → lane < 64 → test < 1000000 → length (test_id lane test) ≤ 19
 id_length lane test small few = omega (
@@ -133,7 +133,7 @@ module _ (lane test : ℕ) (status : Status) (nanos : ℕ) (fit : nanos < 2 ^ 30
     );
   }
 
-  pub test_has_packet : HasPacket lane event
+  pub test_has_packet : HasLanePacket lane event
   test_has_packet = record {
     is_event = record { seconds = omega (arith, few); id = id_is_text lane test small few; tags = tt; mime = tt; file = tt; route = tt };
     fits = test_fits;
@@ -143,5 +143,5 @@ module _ (lane test : ℕ) (status : Status) (nanos : ℕ) (fit : nanos < 2 ^ 30
 pub begun_fits : (event : Event) (lane test : ℕ) → event ≡ drawn_event lane test InProgress 0 none_fit → lane < 64 → test < 1000000 → Fits event
 begun_fits event lane test is small few = rw is (test_fits lane test InProgress 0 none_fit small few)
 
-pub ended_fits : (event : Event) (lane test number : ℕ) → event ≡ drawn_event lane test (drawn_status number) (drawn_nanos number) (nanos_fit number) → lane < 64 → test < 1000000 → Fits event
-ended_fits event lane test number is small few = rw is (test_fits lane test (drawn_status number) (drawn_nanos number) (nanos_fit number) small few)
+pub ended_fits : (event : Event) (lane test number : ℕ) → event ≡ drawn_event lane test (drawn_status number) (drawn_nanos number) (drawn_nanos_fit number) → lane < 64 → test < 1000000 → Fits event
+ended_fits event lane test number is small few = rw is (test_fits lane test (drawn_status number) (drawn_nanos number) (drawn_nanos_fit number) small few)

@@ -12,8 +12,8 @@ use Rattle.edge_io.specs.Children.{Output}
 use Rattle.edge_io.specs.Planned.{planned_output}
 use Rattle.edge_io.specs.declared.child.Finish.TheVariants.{Exit}
 use Rattle.edge_io.specs.declared.plan_spawner.Plan.{Plan}
-use Rattle.drawn_lanes.specs.Draws.{begun, next_state, drawn_number, state_after, drawn}
-use Rattle.drawn_lanes.specs.Outputs.{drawn_status, drawn_nanos, nanos_fit, none_fit, drawn_event, test_events, lane_events, output_of, HasPacket}
+use Rattle.drawn_lanes.specs.Draws.{seed_state, next_state, drawn_number, state_after, drawn}
+use Rattle.drawn_lanes.specs.Outputs.{drawn_status, drawn_nanos, drawn_nanos_fit, none_fit, drawn_event, test_events, lane_events, drawn_output, HasLanePacket}
 use Rattle.drawn_lanes.proofs.EventLemmas.{test_has_packet}
 
 -- ---- draws
@@ -63,14 +63,14 @@ packets_drawn lane tests state before next number old new is stood one drew more
     let number_is : number ≡ drawn tests state = drew ∙ ap drawn_number (one ∙ ap next_state stood) in
     packets_more lane tests state old new is (more ∙ ap (λ n. old ++ flat_map canonical (test_events lane tests n)) number_is)
 
-pub outputs_more : (seed tests lane : ℕ) (old : List Output) (output : Output) → old ≡ map (output_of seed tests) (range_with_len 0 lane) → output ≡ output_of seed tests lane → old ++ output ∷ [] ≡ map (output_of seed tests) (range_with_len 0 (lane + 1))
+pub outputs_more : (seed tests lane : ℕ) (old : List Output) (output : Output) → old ≡ map (drawn_output seed tests) (range_with_len 0 lane) → output ≡ drawn_output seed tests lane → old ++ output ∷ [] ≡ map (drawn_output seed tests) (range_with_len 0 (lane + 1))
 outputs_more seed tests lane old output is one =
     (λ i. is i ++ one i ∷ [])
-    ∙ sym (map-append (output_of seed tests) (range_with_len 0 lane) (lane ∷ []))
-    ∙ ap (map (output_of seed tests)) (sym (one_more lane))
+    ∙ sym (map-append (drawn_output seed tests) (range_with_len 0 lane) (lane ∷ []))
+    ∙ ap (map (drawn_output seed tests)) (sym (one_more lane))
 
-pub plans_more : (seed tests lane state : ℕ) (old new : List Plan) (plan : Plan) → new ≡ old ++ plan ∷ [] → map planned_output old ≡ map (output_of seed tests) (range_with_len 0 lane) → state ≡ state_after (lane * tests) (begun seed) → planned_output plan ≡ record { bytes = flat_map canonical (lane_events lane tests state); finish = Exit (pos 0) }
-    → map planned_output new ≡ map (output_of seed tests) (range_with_len 0 (lane + 1))
+pub plans_more : (seed tests lane state : ℕ) (old new : List Plan) (plan : Plan) → new ≡ old ++ plan ∷ [] → map planned_output old ≡ map (drawn_output seed tests) (range_with_len 0 lane) → state ≡ state_after (lane * tests) (seed_state seed) → planned_output plan ≡ record { bytes = flat_map canonical (lane_events lane tests state); finish = Exit (pos 0) }
+    → map planned_output new ≡ map (drawn_output seed tests) (range_with_len 0 (lane + 1))
 plans_more seed tests lane state old new plan more is stood planned =
     ap (map planned_output) more ∙ map-append planned_output old (plan ∷ [])
     ∙ outputs_more seed tests lane (map planned_output old) (planned_output plan) is (planned ∙ ap (λ n. record { bytes = flat_map canonical (lane_events lane tests n); finish = Exit (pos 0) }) stood)
@@ -78,21 +78,21 @@ plans_more seed tests lane state old new plan more is stood planned =
 pub pieces_more : (old new : List Plan) (plan : Plan) → new ≡ old ++ plan ∷ [] → All (λ plan. plan.piece ≡ 65536) old → plan.piece ≡ 65536 → All (λ plan. plan.piece ≡ 65536) new
 pieces_more old new plan more are one = subst (All (λ plan. plan.piece ≡ 65536)) (sym more) (All-append (λ plan. plan.piece ≡ 65536) old (plan ∷ []) are (All-cons (λ plan. plan.piece ≡ 65536) plan [] one (All-nil (λ plan. plan.piece ≡ 65536))))
 
-pub state_behind : (seed tests lane before next : ℕ) → before ≡ state_after (lane * tests) (begun seed) → next ≡ state_after tests before → next ≡ state_after ((lane + 1) * tests) (begun seed)
-state_behind seed tests lane before next stood drew = drew ∙ ap (state_after tests) stood ∙ lane_behind lane tests ((lane + 1) * tests) (begun seed) refl
+pub state_behind : (seed tests lane before next : ℕ) → before ≡ state_after (lane * tests) (seed_state seed) → next ≡ state_after tests before → next ≡ state_after ((lane + 1) * tests) (seed_state seed)
+state_behind seed tests lane before next stood drew = drew ∙ ap (state_after tests) stood ∙ lane_behind lane tests ((lane + 1) * tests) (seed_state seed) refl
 
 -- ---- packets
 
-test_packets : (lane test number : ℕ) → lane < 64 → test < 1000000 → All (HasPacket lane) (test_events lane test number)
+test_packets : (lane test number : ℕ) → lane < 64 → test < 1000000 → All (HasLanePacket lane) (test_events lane test number)
 test_packets lane test number small few =
     let begun : Event = drawn_event lane test InProgress 0 none_fit in
-    let ended : Event = drawn_event lane test (drawn_status number) (drawn_nanos number) (nanos_fit number) in
-    let last = All-cons (HasPacket lane) ended [] (test_has_packet lane test (drawn_status number) (drawn_nanos number) (nanos_fit number) small few) (All-nil (HasPacket lane)) in
-    All-cons (HasPacket lane) begun (ended ∷ []) (test_has_packet lane test InProgress 0 none_fit small few) last
+    let ended : Event = drawn_event lane test (drawn_status number) (drawn_nanos number) (drawn_nanos_fit number) in
+    let last = All-cons (HasLanePacket lane) ended [] (test_has_packet lane test (drawn_status number) (drawn_nanos number) (drawn_nanos_fit number) small few) (All-nil (HasLanePacket lane)) in
+    All-cons (HasLanePacket lane) begun (ended ∷ []) (test_has_packet lane test InProgress 0 none_fit small few) last
 
-pub lane_has_packets : (lane tests state : ℕ) → lane < 64 → tests ≤ 1000000 → All (HasPacket lane) (lane_events lane tests state)
-lane_has_packets lane zero state small few = All-nil (HasPacket lane)
+pub lane_has_packets : (lane tests state : ℕ) → lane < 64 → tests ≤ 1000000 → All (HasLanePacket lane) (lane_events lane tests state)
+lane_has_packets lane zero state small few = All-nil (HasLanePacket lane)
 lane_has_packets lane (suc tests) state small few =
     let number = drawn tests state in
     let front = lane_has_packets lane tests state small (omega (arith, few)) in
-    subst (All (HasPacket lane)) (sym (test_more lane tests state) ∙ ap (λ n. lane_events lane n state) (add-one tests)) (All-append (HasPacket lane) (lane_events lane tests state) (test_events lane tests number) front (test_packets lane tests number small (omega (arith, few))))
+    subst (All (HasLanePacket lane)) (sym (test_more lane tests state) ∙ ap (λ n. lane_events lane n state) (add-one tests)) (All-append (HasLanePacket lane) (lane_events lane tests state) (test_events lane tests number) front (test_packets lane tests number small (omega (arith, few))))

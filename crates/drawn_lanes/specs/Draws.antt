@@ -2,8 +2,8 @@
 use Rattle.std.specs.Prelude.{ℕ, zero, suc, ◌+◌, ◌*◌, ◌/◌, ◌%◌, ◌^◌}
 
 -- the state that a seed begins with
-abbrev pub begun : (seed : ℕ) → ℕ
-begun seed = seed % 2 ^ 31
+abbrev pub seed_state : (seed : ℕ) → ℕ
+seed_state seed = seed % 2 ^ 31
 
 -- a draw puts this state in the place of another
 abbrev pub next_state : ℕ → ℕ

@@ -13,7 +13,7 @@ use Rattle.packet_codec.specs.declared.event.Event.{Event}
 use Rattle.packet_codec.specs.declared.stamp.Stamp.{Stamp}
 use Rattle.packet_codec.specs.declared.status.Status.{Status}
 use Rattle.packet_codec.specs.declared.status.Status.TheVariants.{InProgress, Success, Skip, Fail}
-use Rattle.drawn_lanes.specs.Draws.{begun, state_after, drawn}
+use Rattle.drawn_lanes.specs.Draws.{seed_state, state_after, drawn}
 
 -- ---- one test
 
@@ -33,8 +33,8 @@ abbrev pub drawn_nanos : (number : ℕ) → ℕ
 drawn_nanos number = number % 1000 * 1000000
 
 -- a stamp has room for them
-pub nanos_fit : (number : ℕ) → drawn_nanos number < 2 ^ 30
-nanos_fit number = lt_of_le_of_lt (mul-le (number % 1000) 1000000 1000 1000000 (le_of_lt (mod_below number 1000 (lit< tt))) (le_refl 1000000)) (lit< tt)
+pub drawn_nanos_fit : (number : ℕ) → drawn_nanos number < 2 ^ 30
+drawn_nanos_fit number = lt_of_le_of_lt (mul-le (number % 1000) 1000000 1000 1000000 (le_of_lt (mod_below number 1000 (lit< tt))) (le_refl 1000000)) (lit< tt)
 
 -- and for none
 pub none_fit : 0 < 2 ^ 30
@@ -66,7 +66,7 @@ drawn_event lane test status nanos fit = record {
 abbrev pub test_events : (lane test number : ℕ) → List Event
 test_events lane test number =
     drawn_event lane test InProgress 0 none_fit
-    ∷ drawn_event lane test (drawn_status number) (drawn_nanos number) (nanos_fit number)
+    ∷ drawn_event lane test (drawn_status number) (drawn_nanos number) (drawn_nanos_fit number)
     ∷ []
 
 -- ---- one lane
@@ -78,25 +78,25 @@ lane_events lane tests state = flat_map (λ test. test_events lane test (drawn t
 -- ---- all lanes
 
 -- The draws of a lane come behind those of the lanes before it: one for each test, in the order of the tests.
-abbrev pub state_of : (seed tests lane : ℕ) → ℕ
-state_of seed tests lane = state_after (lane * tests) (begun seed)
+abbrev pub lane_state : (seed tests lane : ℕ) → ℕ
+lane_state seed tests lane = state_after (lane * tests) (seed_state seed)
 
 -- the events of a lane, so many of whose tests there are
-abbrev pub events_of : (seed tests lane : ℕ) → List Event
-events_of seed tests lane = lane_events lane tests (state_of seed tests lane)
+abbrev pub drawn_events : (seed tests lane : ℕ) → List Event
+drawn_events seed tests lane = lane_events lane tests (lane_state seed tests lane)
 
 -- its output as packets, in their shortest form; it ends with 0
-abbrev pub output_of : (seed tests lane : ℕ) → Output
-output_of seed tests lane = record { bytes = flat_map canonical (events_of seed tests lane); finish = Exit (pos 0) }
+abbrev pub drawn_output : (seed tests lane : ℕ) → Output
+drawn_output seed tests lane = record { bytes = flat_map canonical (drawn_events seed tests lane); finish = Exit (pos 0) }
 
 -- the outputs of so many lanes
 abbrev pub outputs_of : (seed lanes tests : ℕ) → List Output
-outputs_of seed lanes tests = map (output_of seed tests) (range_with_len 0 lanes)
+outputs_of seed lanes tests = map (drawn_output seed tests) (range_with_len 0 lanes)
 
 -- ---- packets
 
 -- the event has a packet, and so it has under the lane
-pub record HasPacket (lane : ℕ) (event : Event) : Type 0 where
+pub record HasLanePacket (lane : ℕ) (event : Event) : Type 0 where
   pub is_event : IsEvent event
   pub fits : Fits event
   pub fits_under : Fits (under lane event)

@@ -1,7 +1,7 @@
 //! Numbers drawn from a seed.
 
 ghost use Rattle.std.specs.Prelude.{◌≡◌, ◌<◌, ◌^◌};
-ghost use Rattle.drawn_lanes.specs.Draws.{begun, next_state, drawn_number};
+ghost use Rattle.drawn_lanes.specs.Draws.{seed_state, next_state, drawn_number};
 
 use std::marker::Model;
 
@@ -27,7 +27,7 @@ impl Model for Draws {
 impl Draws {
     /// The draws that begin with this seed, of which the lowest 31 bits count.
     pub fn new(seed: u32) -> Self
-        ensures { result ≡ begun seed }
+        ensures { result ≡ seed_state seed }
     {
         Draws {
             state: (u64::from(seed) % STATES) as u32,

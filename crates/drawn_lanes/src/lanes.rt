@@ -18,7 +18,7 @@ const PIECE: usize = 65_536;
 
 /// A plan for each lane's worker, in order: it prints the packets of its tests, and ends with 0. How the tests end is drawn
 /// from the seed, one draw for each, lane by lane. There are 1 to 64 lanes of as many tests each, 1,000,000 in all at most.
-pub fn plans(alloc: Global, seed: u32, lanes: u32, tests: u32) -> Result<Vec<Plan>, NoMemory>
+pub fn drawn_plans(alloc: Global, seed: u32, lanes: u32, tests: u32) -> Result<Vec<Plan>, NoMemory>
     requires some { 1 ≤ lanes }
     requires few { lanes ≤ 64 }
     requires most { lanes * tests ≤ 1_000_000 }

@@ -18,5 +18,5 @@ mod laws;
 mod packets;
 
 pub use draws::Draws;
-pub use lanes::plans;
+pub use lanes::drawn_plans;
 pub use laws::drawn_events_have_packets;

@@ -3,7 +3,7 @@
 ghost use Rattle.std.specs.Prelude.{◌≡◌, ◌<◌, ◌^◌, ◌++◌, ℕ, IfOk, OnOk};
 ghost use Rattle.std.specs.List.{flat_map};
 ghost use Rattle.packet_codec.specs.Canonical.{canonical};
-ghost use Rattle.drawn_lanes.specs.Outputs.{test_id as id_of, drawn_status, drawn_nanos, nanos_fit, none_fit, drawn_stamp, drawn_event, test_events};
+ghost use Rattle.drawn_lanes.specs.Outputs.{test_id as id_of, drawn_status, drawn_nanos, drawn_nanos_fit, none_fit, drawn_stamp, drawn_event, test_events};
 ghost use Rattle.packet_codec.specs.declared.status.Status.TheVariants.{InProgress};
 
 use itoa::Buffer;
@@ -60,7 +60,7 @@ fn begun_event(lane: u32, test: u32, spare: &mut Vec<u8>) -> Result<Event, NoMem
 // The event with which it ends, of that with which it began.
 fn ended_event(event: Event, test: u32, number: u32) -> Event
     requires test { test < 1_000_000 }
-    ensures { (lane : ℕ) → event ≡ drawn_event lane test InProgress 0 none_fit → result ≡ drawn_event lane test (drawn_status number) (drawn_nanos number) (nanos_fit number) }
+    ensures { (lane : ℕ) → event ≡ drawn_event lane test InProgress 0 none_fit → result ≡ drawn_event lane test (drawn_status number) (drawn_nanos number) (drawn_nanos_fit number) }
 {
     Event {
         stamp: Some(stamp(test, number % 1000 * 1_000_000)),

@@ -9,7 +9,7 @@ use Rattle.edge_io.specs.Sites.{Finds, GivesPart}
 use Rattle.edge_io.specs.declared.site.Found.TheVariants.{Read}
 
 -- so far the file begins with these bytes, and no read failed
-pub record IsReading (before now : Seen Files) (name : List ℕ) (most : ℕ) (bytes : List ℕ) : Type 0 where
+pub record IsReadingFile (before now : Seen Files) (name : List ℕ) (most : ℕ) (bytes : List ℕ) : Type 0 where
   pub front : BeginsFile before.told name bytes
   pub few : length bytes ≤ most
   pub same : now.told ≡ before.told

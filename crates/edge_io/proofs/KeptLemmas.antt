@@ -5,14 +5,14 @@ use Rattle.std.specs.Str.{bytes_eq}
 use Rattle.std.proofs.lemmas.Bool.{cond-true, cond-false, ltb-true, lt-ltb, le-ltb, le-leb, lt-leb, cases_lt}
 use Rattle.std.proofs.lemmas.List.{take-append-le, take_more, take_all, map-append}
 use Rattle.std.proofs.lemmas.List.Elements.{All-head, All-tail, All-push, All-same, All-weaker}
-use Rattle.edge_io.specs.declared.kept.File.{File}
-use Rattle.edge_io.specs.declared.kept.Mark.{Mark}
+use Rattle.edge_io.specs.declared.published_files.File.{File}
+use Rattle.edge_io.specs.declared.published_files.Mark.{Mark}
 use Rattle.edge_io.specs.Disk.{Files, put, Draft, Folder, IsImage, at_rest}
 use Rattle.edge_io.specs.Steps.{CanPublish, placed, moved}
 use Rattle.edge_io.specs.MemState.{begins_with, image_of}
-use Rattle.edge_io.specs.Kept.{or_else, latest, mark_in_force, first_mark, disk_counts, lookup, nth, disk_with, pending_file, disk_at, KnowsFirst}
+use Rattle.edge_io.specs.Kept.{bytes_or_else, latest, mark_in_force, first_mark, disk_counts, lookup, nth, disk_with, pending_file, disk_at, KnowsFirst}
 
-or_if : (b : Bool) (v : List ℕ) (o other : Option (List ℕ)) → or_else (if b then Some v else o) other ≡ (if b then Some v else or_else o other)
+or_if : (b : Bool) (v : List ℕ) (o other : Option (List ℕ)) → bytes_or_else (if b then Some v else o) other ≡ (if b then Some v else bytes_or_else o other)
 or_if true v o other = refl
 or_if false v o other = refl
 
@@ -20,7 +20,7 @@ lookup_push_at : (files : List File) (file : File) (q : List ℕ) → lookup (fi
 lookup_push_at [] file q = refl
 lookup_push_at (f ∷ files) file q =
     let last = if bytes_eq q (string_bytes f.name) then Some f.bytes.items else None in
-    ap (λ (o : Option (List ℕ)). or_else o last) (lookup_push_at files file q) ∙ or_if (bytes_eq q (string_bytes file.name)) file.bytes.items (lookup files q) last
+    ap (λ (o : Option (List ℕ)). bytes_or_else o last) (lookup_push_at files file q) ∙ or_if (bytes_eq q (string_bytes file.name)) file.bytes.items (lookup files q) last
 
 pub lookup-push : (files : List File) (file : File) → lookup (files ++ file ∷ []) ≡ put (lookup files) (string_bytes file.name) file.bytes.items
 lookup-push files file = λ i q. lookup_push_at files file q i
@@ -114,8 +114,8 @@ module _ (files : List File) (mark : Mark) (first : mark.settled ≤ mark.publis
   ]
 
 -- the folder that these stand for
-abbrev pub folder_with : List File → Mark → Option Draft → List Mark → Folder
-folder_with files mark draft past = record { disk = disk_at files mark; draft = draft; past = map (disk_at files) past }
+abbrev pub folder_at_mark : List File → Mark → Option Draft → List Mark → Folder
+folder_at_mark files mark draft past = record { disk = disk_at files mark; draft = draft; past = map (disk_at files) past }
 
 known_draft : (b : Bool) (draft : Draft) → IsSome (if b then Some draft else None) → (if b then Some draft else None) ≡ Some draft
 known_draft true draft there = refl
@@ -140,10 +140,10 @@ at_rest_with files n since count =
 -- a publish: one file more, which is pending
 pub publish_step : (files later : List File) (now : Mark) (past marks : List Mark) (drafting : Bool) (draft : Draft) (file : File) (whole : Bool) (since : ℕ)
     → now.settled ≤ now.published → now.published ≤ now.settled + 1 → now.published ≡ length files → All (KnowsFirst (length files)) past
-    → CanPublish (folder_with files now (if drafting then Some draft else None) past)
+    → CanPublish (folder_at_mark files now (if drafting then Some draft else None) past)
     → file.bytes.items ≡ draft.bytes → whole ≡ nat_eq draft.synced (length draft.bytes) → later ≡ files ++ file ∷ [] → marks ≡ past ++ now ∷ []
-    → folder_with later (record { settled = now.settled; published = now.settled + 1; whole = whole; since = since }) None marks
-    ≡ moved (folder_with files now (if drafting then Some draft else None) past) (placed (string_bytes file.name) (disk_at files now) (if drafting then Some draft else None)) None
+    → folder_at_mark later (record { settled = now.settled; published = now.settled + 1; whole = whole; since = since }) None marks
+    ≡ moved (folder_at_mark files now (if drafting then Some draft else None) past) (placed (string_bytes file.name) (disk_at files now) (if drafting then Some draft else None)) None
 publish_step files later now past marks drafting draft file whole since first one all within can same is_whole more longer =
     let n = now.settled in
     let mark : Mark = record { settled = n; published = n + 1; whole = whole; since = since } in
@@ -169,8 +169,8 @@ publish_step files later now past marks drafting draft file whole since first on
 pub put_step : (files later : List File) (now : Mark) (past marks : List Mark) (draft : Option Draft) (file : File) (since : ℕ)
     → now.settled ≤ now.published → now.published ≤ now.settled + 1 → now.published ≡ length files → All (KnowsFirst (length files)) past
     → (disk_at files now).pending ≡ None → later ≡ files ++ file ∷ [] → marks ≡ past ++ now ∷ []
-    → folder_with later (record { settled = now.settled + 1; published = now.settled + 1; whole = true; since = since }) draft marks
-    ≡ moved (folder_with files now draft past) (at_rest (put (disk_at files now).published (string_bytes file.name) file.bytes.items)) draft
+    → folder_at_mark later (record { settled = now.settled + 1; published = now.settled + 1; whole = true; since = since }) draft marks
+    ≡ moved (folder_at_mark files now draft past) (at_rest (put (disk_at files now).published (string_bytes file.name) file.bytes.items)) draft
 put_step files later now past marks draft file since first one all within none more longer =
     let n = now.settled in
     let name = string_bytes file.name in
@@ -186,8 +186,8 @@ put_step files later now past marks draft file since first one all within none m
 -- a sync of the folder
 pub sync_step : (files : List File) (now : Mark) (past marks : List Mark) (draft : Option Draft) (since : ℕ)
     → now.settled ≤ now.published → now.published ≤ now.settled + 1 → now.published ≡ length files → marks ≡ past ++ now ∷ []
-    → folder_with files (record { settled = now.published; published = now.published; whole = true; since = since }) draft marks
-    ≡ moved (folder_with files now draft past) (at_rest (disk_at files now).published) draft
+    → folder_at_mark files (record { settled = now.published; published = now.published; whole = true; since = since }) draft marks
+    ≡ moved (folder_at_mark files now draft past) (at_rest (disk_at files now).published) draft
 sync_step files now past marks draft since first one all longer =
     let n = now.published in
     let mark : Mark = record { settled = n; published = n; whole = true; since = since } in
@@ -324,7 +324,7 @@ module _ (files : List File) (past : List Mark) (current : Mark) (moment : ℕ) 
   few = subst (λ n. n ≤ length files) (sym is_count) (count_within (length files) mark choice mark_within)
 
   pub image_folder : (copies : List File) (none : List Mark) → lookup copies ≡ lookup (take count files) → count ≡ length copies → none ≡ [] → (since : ℕ)
-      → folder_with copies (record { settled = count; published = count; whole = true; since = since }) None none
+      → folder_at_mark copies (record { settled = count; published = count; whole = true; since = since }) None none
       ≡ begins_with (image_of (disk_at files (mark_in_force (past ++ current ∷ []) moment)) choice)
   image_folder copies none same size empty since =
       let image : lookup copies ≡ image_of (disk_at files (mark_in_force (past ++ current ∷ []) moment)) choice =

@@ -13,7 +13,7 @@ use Rattle.std.proofs.lemmas.Map.Text.{is_eq-slice_cmp}
 use Rattle.std.proofs.lemmas.Map.Views.{btree_set_contains_iff}
 use Rattle.std.proofs.lemmas.Slice.Eq.{bytes_eq-Decides}
 use Rattle.sub_number.specs.Texts.{IsShortText}
-use Rattle.edge_io.specs.declared.kept.File.{File}
+use Rattle.edge_io.specs.declared.published_files.File.{File}
 use Rattle.edge_io.specs.Disk.{Files}
 use Rattle.edge_io.specs.Kept.{lookup}
 use Rattle.edge_io.specs.Names.{AreNamesOf, HasNamesOf, ListsInOrder}

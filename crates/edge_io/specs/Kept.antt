@@ -2,19 +2,19 @@
 use Rattle.std.specs.Prelude.{ℕ, zero, suc, ◌+◌, ◌≤◌, Bool, true, Option, Some, None, List, [], ◌∷◌, take, string_bytes, nat_lt, nat_le, if◌then◌else◌}
 use Rattle.std.specs.Str.{bytes_eq}
 use Rattle.std.proofs.Common.{inl, inr}
-use Rattle.edge_io.specs.declared.kept.File.{File}
-use Rattle.edge_io.specs.declared.kept.Mark.{Mark}
+use Rattle.edge_io.specs.declared.published_files.File.{File}
+use Rattle.edge_io.specs.declared.published_files.Mark.{Mark}
 use Rattle.edge_io.specs.Disk.{Files, put, put_same, Disk, IsImage, at_rest}
 
 -- the first bytes, and the others where there are none
-abbrev pub or_else : Option (List ℕ) → Option (List ℕ) → Option (List ℕ)
-or_else None other = other
-or_else (Some bytes) other = Some bytes
+abbrev pub bytes_or_else : Option (List ℕ) → Option (List ℕ) → Option (List ℕ)
+bytes_or_else None other = other
+bytes_or_else (Some bytes) other = Some bytes
 
 -- the last file of a name counts
 abbrev pub lookup : List File → Files
 lookup [] q = None
-lookup (file ∷ files) q = or_else (lookup files q) (if bytes_eq q (string_bytes file.name) then Some file.bytes.items else None)
+lookup (file ∷ files) q = bytes_or_else (lookup files q) (if bytes_eq q (string_bytes file.name) then Some file.bytes.items else None)
 
 -- the file in this place of the list, counted from 0
 abbrev pub nth : List File → ℕ → Option File

@@ -15,3 +15,4 @@ pub mod Spawners
 pub mod Sites
 pub mod Planned
 pub mod Files
+pub mod Limits

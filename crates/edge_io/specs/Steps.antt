@@ -33,8 +33,8 @@ pub record CanPublish (s : Folder) : Type 0 where
   pub settled : s.disk.pending ≡ None
 
 -- where the folder is told, its draft can be published
-abbrev pub IsReady : Option Folder → Type 0
-IsReady state = IfSome state CanPublish
+abbrev pub CanPublishIfTold : Option Folder → Type 0
+CanPublishIfTold state = IfSome state CanPublish
 
 -- where the folder is told, this is the length of the published file, none where there is no such name
 abbrev pub FindsLength : Option Folder → List ℕ → Option ℕ → Type 0

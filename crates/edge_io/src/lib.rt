@@ -16,14 +16,14 @@
 //! - `list_source`, `list_sink`, `mem_shelf`, `map_site`, `plan_child`, `plan_spawner`: the forms in memory, which fail at
 //!   the calls that they are told to.
 //! - `names`: the list of a folder's names.
-//! - `plan`, `kept`: which calls of these fail, and the files and moments that a shelf in memory keeps.
+//! - `fault_plan`, `published_files`: which calls of these fail, and the files and moments that a shelf in memory keeps.
 //! - `laws`: the last moment of such a shelf is now.
 #![tactic(auto)]
 
 mod child;
 mod failed;
+mod fault_plan;
 mod job;
-mod kept;
 mod laws;
 mod limits;
 mod list_sink;
@@ -31,9 +31,9 @@ mod list_source;
 mod map_site;
 mod mem_shelf;
 mod names;
-mod plan;
 mod plan_child;
 mod plan_spawner;
+mod published_files;
 mod shelf;
 mod sink;
 mod site;

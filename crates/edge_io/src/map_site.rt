@@ -1,8 +1,8 @@
 // Files in memory by name.
 ghost use Rattle.std.specs.Prelude.{◌≡◌, ◌↔◌, [], Some, None, IsErr, Contains, OnOk, OnErr};
 
-use crate::kept::{File, bytes_of, copy_part};
-use crate::plan::FaultPlan;
+use crate::fault_plan::FaultPlan;
+use crate::published_files::{File, copy_part, last_bytes_of};
 use crate::{Failed, Found, Site};
 use std::alloc::Global;
 use sub_number::{Bytes, NoMemory, Text};
@@ -35,7 +35,7 @@ impl MapSite {
     }
 
     /// Says which folder the files stand in, by its absolute path. It is no call of those that are counted.
-    pub fn stand_in(&mut self, folder: Text)
+    pub fn place_in(&mut self, folder: Text)
         ensures path { site_folder self.new ≡ folder }
         ensures files { site_files self.new ≡ site_files self.old }
         ensures course { site_course self.new ≡ site_course self.old }
@@ -90,8 +90,8 @@ impl Site for MapSite {
         ensures calls { (site_course self.new).calls ≡ one_more (site_course self.old).calls }
         ensures fails { (site_course self.new).fails ≡ (site_course self.old).fails }
     {
-        self.plan.turn()?;
-        match bytes_of(&self.files, name) {
+        self.plan.count_call()?;
+        match last_bytes_of(&self.files, name) {
             Some(bytes) => Ok(Found::Read(copy_part(bytes, place, buf))),
             None => Ok(Found::Absent),
         }

@@ -2,9 +2,11 @@
 ghost use Rattle.std.specs.Prelude.{◌≡◌, ◌+◌, ◌≤◌, ℕ, Some, None, [], length, All, OnOk, OnErr, IfOk};
 ghost use Rattle.edge_io.specs.Kept.{KnowsFirst};
 
-use crate::kept::{File, Mark, bytes_of, copied, copy_part, count_at, keep, mark_at};
+use crate::fault_plan::FaultPlan;
 use crate::names::names_of;
-use crate::plan::FaultPlan;
+use crate::published_files::{
+    File, Mark, copied_files, copy_part, file_count_at, keep_file, last_bytes_of, mark_at,
+};
 use crate::{Failed, NamesFault, Shelf};
 use std::alloc::{AllocError, Global};
 use std::mem;
@@ -33,7 +35,7 @@ impl Shelf for MemShelf {
     ghost use Rattle.std.specs.Prelude.{◌<◌};
     ghost use Rattle.std.specs.Io.{ReadsAtMost};
     ghost use Rattle.edge_io.specs.Causes.{HasCause};
-    ghost use Rattle.edge_io.specs.Steps.{Goes, Stays, Ticks, HasDraft, DraftFits, HasFile, IsReady, FindsLength, ReadsPart, Opened, Dropped, Grown, GrownInPart, Synced, Placed, PlacedOrNot, Settled};
+    ghost use Rattle.edge_io.specs.Steps.{Goes, Stays, Ticks, HasDraft, DraftFits, HasFile, CanPublishIfTold, FindsLength, ReadsPart, Opened, Dropped, Grown, GrownInPart, Synced, Placed, PlacedOrNot, Settled};
     ghost use Rattle.edge_io.specs.Names.{ListsNames, HasNamesCause};
     ghost use Rattle.edge_io.specs.Plans.{FailsAsListed, NamesAsListed};
     ghost use Rattle.edge_io.specs.MemState.{folder_of, folder_counts, shelf_course, shelf_calls, shelf_faults, Remembers};
@@ -53,7 +55,7 @@ impl Shelf for MemShelf {
         ensures listed { NamesAsListed (shelf_course self.old) (shelf_course self.new) result }
         ensures moments { Remembers self.old self.new }
     {
-        self.plan.turn()?;
+        self.plan.count_call()?;
         names_of(alloc, &self.files)
     }
 
@@ -65,8 +67,8 @@ impl Shelf for MemShelf {
         ensures listed { FailsAsListed (shelf_course self.old) (shelf_course self.new) result }
         ensures moments { Remembers self.old self.new }
     {
-        self.plan.turn()?;
-        match bytes_of(&self.files, name) {
+        self.plan.count_call()?;
+        match last_bytes_of(&self.files, name) {
             Some(bytes) => Ok(Some(bytes.len() as u64)),
             None => Ok(None),
         }
@@ -83,8 +85,8 @@ impl Shelf for MemShelf {
         ensures listed { FailsAsListed (shelf_course self.old) (shelf_course self.new) result }
         ensures moments { Remembers self.old self.new }
     {
-        self.plan.turn()?;
-        match bytes_of(&self.files, name) {
+        self.plan.count_call()?;
+        match last_bytes_of(&self.files, name) {
             Some(bytes) => Ok(copy_part(bytes, place, buf)),
             None => Ok(0),
         }
@@ -99,7 +101,7 @@ impl Shelf for MemShelf {
         ensures moments { Remembers self.old self.new }
     {
         self.drafting = false;
-        self.plan.turn()?;
+        self.plan.count_call()?;
         self.drafting = true;
         self.draft = Vec::new(self.alloc);
         self.synced = 0;
@@ -117,7 +119,7 @@ impl Shelf for MemShelf {
         ensures listed { FailsAsListed (shelf_course self.old) (shelf_course self.new) result }
         ensures moments { Remembers self.old self.new }
     {
-        self.plan.turn()?;
+        self.plan.count_call()?;
         if self.draft.extend_from_slice(piece).is_err() {
             return Err(self.plan.count_short());
         }
@@ -133,7 +135,7 @@ impl Shelf for MemShelf {
         ensures listed { FailsAsListed (shelf_course self.old) (shelf_course self.new) result }
         ensures moments { Remembers self.old self.new }
     {
-        if let Err(failed) = self.plan.turn() {
+        if let Err(failed) = self.plan.count_call() {
             self.drafting = false;
             return Err(failed);
         }
@@ -143,7 +145,7 @@ impl Shelf for MemShelf {
 
     /// Where it fails nothing is published.
     fn publish(&mut self, name: &str) -> Result<(), Failed>
-        requires { IsReady (Some (folder_of self.old)) }
+        requires { CanPublishIfTold (Some (folder_of self.old)) }
         ensures ok { OnOk result (Goes (Some (folder_of self.old)) (Some (folder_of self.new)) (Placed name.now)) }
         ensures err { OnErr result (Goes (Some (folder_of self.old)) (Some (folder_of self.new)) Dropped) }
         ensures time { Ticks (shelf_calls self.old) (shelf_calls self.new) }
@@ -152,14 +154,14 @@ impl Shelf for MemShelf {
         ensures moments { Remembers self.old self.new }
     {
         self.drafting = false;
-        self.plan.turn()?;
+        self.plan.count_call()?;
         let Ok(name) = String::from_str(self.alloc, name) else {
             return Err(self.plan.count_short());
         };
         let bytes = mem::replace(&mut self.draft, Vec::new(self.alloc));
         let settled = self.current.settled;
         let whole = self.synced == bytes.len();
-        let Ok(()) = keep(
+        let Ok(()) = keep_file(
             &mut self.files,
             &mut self.past,
             self.current,
@@ -184,7 +186,7 @@ impl Shelf for MemShelf {
         ensures listed { FailsAsListed (shelf_course self.old) (shelf_course self.new) result }
         ensures moments { Remembers self.old self.new }
     {
-        self.plan.turn()?;
+        self.plan.count_call()?;
         let Ok(()) = self.past.push(self.current) else {
             return Err(self.plan.count_short());
         };
@@ -227,7 +229,7 @@ impl MemShelf {
     }
 
     /// How many calls failed for want of memory; they are a part of its faults. It stops at the last value of a `u64`.
-    pub fn short(&self) -> u64
+    pub fn memory_faults(&self) -> u64
         ensures count { result ≡ (shelf_course self.now).short }
         ensures part { result ≤ shelf_faults self.now }
     {
@@ -249,7 +251,7 @@ impl MemShelf {
             bytes: bytes.into_vec(),
         };
         let published = self.current.settled + 1;
-        keep(&mut self.files, &mut self.past, self.current, file)?;
+        keep_file(&mut self.files, &mut self.past, self.current, file)?;
         self.current = Mark {
             settled: published,
             published,
@@ -266,8 +268,8 @@ impl MemShelf {
         ensures fresh { IfOk result (λ image. IsNew image []) }
     {
         let mark = mark_at(&self.past, self.current, moment);
-        let count = count_at(mark, choice);
-        let files = copied(self.alloc, &self.files[..count])?;
+        let count = file_count_at(mark, choice);
+        let files = copied_files(self.alloc, &self.files[..count])?;
         Ok(MemShelf {
             alloc: self.alloc,
             files,

@@ -4,7 +4,7 @@ ghost use Rattle.edge_io.specs.Kept.{lookup};
 ghost use Rattle.edge_io.specs.Names.{AreNamesOf, HasNamesOf, ListsInOrder};
 ghost use Rattle.edge_io.specs.declared.names.NamesFault.TheVariants.{Failed, NoMemory};
 
-use crate::kept::File;
+use crate::published_files::File;
 use std::alloc::{AllocFailed, Global};
 use std::collections::BTreeSet;
 use sub_number::{Text, TextFault};

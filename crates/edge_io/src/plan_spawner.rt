@@ -1,7 +1,7 @@
 // A spawner of children in memory.
 ghost use Rattle.std.specs.Prelude.{◌≡◌, ◌≤◌, ◌∷◌, ◌++◌, Some, [], map, OnOk, OnErr};
 
-use crate::plan::FaultPlan;
+use crate::fault_plan::FaultPlan;
 use crate::{Failed, Finish, Job, PlanChild, Spawner};
 use std::alloc::Global;
 use std::collections::VecDeque;
@@ -56,7 +56,7 @@ impl PlanSpawner {
     }
 
     /// How many starts failed for want of memory; they are a part of its faults. It stops at the last value of a `u64`.
-    pub fn short(&self) -> u64
+    pub fn memory_faults(&self) -> u64
         ensures count { result ≡ (spawner_course self.now).short }
         ensures part { result ≤ spawner_faults self.now }
     {
@@ -79,7 +79,7 @@ impl Spawner for PlanSpawner {
         ensures cause { HasCause (spawner_faults self.old) (spawner_faults self.new) result }
         ensures listed { SpawnsAsListed (spawning_of self.old).outputs (spawner_course self.old) (spawner_course self.new) result }
     {
-        self.plan.turn()?;
+        self.plan.count_call()?;
         if self.plans.is_empty() {
             return Err(self.plan.count_fault());
         }

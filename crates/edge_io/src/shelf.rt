@@ -5,7 +5,7 @@ ghost use Rattle.edge_io.specs.Causes.{HasCause};
 ghost use Rattle.edge_io.specs.Disk.{Folder, IsImage};
 ghost use Rattle.edge_io.specs.Names.{ListsNames, HasNamesCause};
 ghost use Rattle.edge_io.specs.Seen.{Seen};
-ghost use Rattle.edge_io.specs.Steps.{Goes, Stays, Ticks, HasDraft, DraftFits, HasFile, IsReady, FindsLength, ReadsPart, Opened, Dropped, Grown, GrownInPart, Synced, Placed, PlacedOrNot, Settled};
+ghost use Rattle.edge_io.specs.Steps.{Goes, Stays, Ticks, HasDraft, DraftFits, HasFile, CanPublishIfTold, FindsLength, ReadsPart, Opened, Dropped, Grown, GrownInPart, Synced, Placed, PlacedOrNot, Settled};
 
 use crate::{Failed, NamesFault};
 use std::alloc::Global;
@@ -78,7 +78,7 @@ pub trait Shelf {
     /// a stop may also leave any bytes under it. After `Failed` there is no draft, and the file is published and pending
     /// or all is as before.
     fn publish(&mut self, name: &str) -> Result<(), Failed>
-        requires { IsReady (seen self.old).told }
+        requires { CanPublishIfTold (seen self.old).told }
         ensures ok { OnOk result (Goes (seen self.old).told (seen self.new).told (Placed name.now)) }
         ensures err { OnErr result (Goes (seen self.old).told (seen self.new).told (PlacedOrNot name.now)) }
         ensures time { Ticks (clock self.old) (clock self.new) }

@@ -17,7 +17,7 @@ use Rattle.outcome_fold.proofs.TableLemmas.{entries_in_order}
 use Rattle.outcome_fold.proofs.CloseLemmas.{table_with}
 use Rattle.outcome_fold.proofs.FoldLemmas.{append_none}
 use Rattle.event_sift.specs.Released.{if_kept, completed_part_row, released, released_with, released_behind, released_by, released_at_end, parts_at_end, part_at, kept_open}
-use Rattle.event_sift.specs.Sifted.{open_parts}
+use Rattle.event_sift.specs.Sifted.{open_part_events}
 
 -- At an event.
 
@@ -60,11 +60,11 @@ flat_map_map : {A B C : Type 0} (f : B → List C) (g : A → B) (xs : List A) �
 flat_map_map f g [] = refl
 flat_map_map f g (x ∷ xs) = ap (λ l. f (g x) ++ l) (flat_map_map f g xs)
 
-pub at_end : (kept : Row → Bool) (seen : List Event) (es : List (TestKey × List Event)) → IsStrictlySortedBy test_cmp (map (λ e. e.0) es) → fin.from_entries {R = test_cmp} es ≡ open_parts seen → flat_map (kept_entry kept) es ≡ released_at_end kept seen
+pub at_end : (kept : Row → Bool) (seen : List Event) (es : List (TestKey × List Event)) → IsStrictlySortedBy test_cmp (map (λ e. e.0) es) → fin.from_entries {R = test_cmp} es ≡ open_part_events seen → flat_map (kept_entry kept) es ≡ released_at_end kept seen
 at_end kept seen es ordered is =
     let entries : List (TestKey × List Event) = fin.entries (table {R = test_cmp} (kept_open kept seen) (open_tests seen)) in
     ap (flat_map (kept_entry kept)) (sym (entries_in_order tests_total es ordered) ∙ ap fin.entries is)
-    ∙ sym (flat_map_map (λ (e : TestKey × List Event). e.1) (λ (e : TestKey × List Event). (e.0, kept_entry kept e)) (fin.entries (open_parts seen)))
+    ∙ sym (flat_map_map (λ (e : TestKey × List Event). e.1) (λ (e : TestKey × List Event). (e.0, kept_entry kept e)) (fin.entries (open_part_events seen)))
     ∙ sym (ap (flat_map (λ (e : TestKey × List Event). e.1)) (table_with exact_tests (λ test part. kept_entry kept (test, part)) tests_total (part_at seen) (open_tests seen)))
     ∙ sym (flat_map_map (λ (part : List Event). part) (λ (e : TestKey × List Event). e.1) entries)
 
@@ -72,10 +72,10 @@ map_map : {A B C : Type 0} (f : B → C) (g : A → B) (xs : List A) → map f (
 map_map f g [] = refl
 map_map f g (x ∷ xs) = ap (λ l. f (g x) ∷ l) (map_map f g xs)
 
-pub parts_end : (kept : Row → Bool) (seen : List Event) (es : List (TestKey × List Event)) → IsStrictlySortedBy test_cmp (map (λ e. e.0) es) → fin.from_entries {R = test_cmp} es ≡ open_parts seen → map (kept_entry kept) es ≡ parts_at_end kept seen
+pub parts_end : (kept : Row → Bool) (seen : List Event) (es : List (TestKey × List Event)) → IsStrictlySortedBy test_cmp (map (λ e. e.0) es) → fin.from_entries {R = test_cmp} es ≡ open_part_events seen → map (kept_entry kept) es ≡ parts_at_end kept seen
 parts_end kept seen es ordered is =
     ap (map (kept_entry kept)) (sym (entries_in_order tests_total es ordered) ∙ ap fin.entries is)
-    ∙ sym (map_map (λ (e : TestKey × List Event). e.1) (λ (e : TestKey × List Event). (e.0, kept_entry kept e)) (fin.entries (open_parts seen)))
+    ∙ sym (map_map (λ (e : TestKey × List Event). e.1) (λ (e : TestKey × List Event). (e.0, kept_entry kept e)) (fin.entries (open_part_events seen)))
     ∙ sym (ap (map (λ (e : TestKey × List Event). e.1)) (table_with exact_tests (λ test part. kept_entry kept (test, part)) tests_total (part_at seen) (open_tests seen)))
 
 -- what an open test's part gives

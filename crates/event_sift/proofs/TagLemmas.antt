@@ -125,11 +125,11 @@ lent_in_order (tag ∷ tags) ordered = (below tags ordered.0, lent_in_order tags
 
 -- a place that the search ends at, from the end
 
-abbrev pub Behind : List (List ℕ) → ℕ → List ℕ → Type 0
-Behind texts place text = AllByRecursion (λ other. text_cmp text other ≡ Less) (drop place texts)
+abbrev pub ComesBehind : List (List ℕ) → ℕ → List ℕ → Type 0
+ComesBehind texts place text = AllByRecursion (λ other. text_cmp text other ≡ Less) (drop place texts)
 
 -- the one in front of the place is less
-pub place_behind : (tags : List (Bor (List ℕ))) (place : ℕ) (tag : List ℕ) (d : Bor (List ℕ)) → IsStrictlySortedBy text_cmp (lent_bytes tags) → 0 < place → place ≤ length tags → Less ≡ text_cmp (get_or tags (place - 1) d).now tag → Behind (lent_bytes tags) place tag → insert (lent_bytes tags) place tag ≡ in_byte_order (tag ∷ lent_bytes tags)
+pub place_behind : (tags : List (Bor (List ℕ))) (place : ℕ) (tag : List ℕ) (d : Bor (List ℕ)) → IsStrictlySortedBy text_cmp (lent_bytes tags) → 0 < place → place ≤ length tags → Less ≡ text_cmp (get_or tags (place - 1) d).now tag → ComesBehind (lent_bytes tags) place tag → insert (lent_bytes tags) place tag ≡ in_byte_order (tag ∷ lent_bytes tags)
 place_behind tags zero tag d ordered some within is behind = absurd (omega (arith, some))
 place_behind tags (suc i) tag d ordered some within is behind =
     let below : i < length (lent_bytes tags) = omega (arith, within, length_lent tags) in
@@ -145,16 +145,16 @@ there_already tags place tag d ordered some within is =
     set_has (lent_bytes tags) tag ordered (sym (list_any_at (eq_by_cmp text_cmp tag) (lent_bytes tags) (place - 1) [] below (ap is_eq (texts_total.antisymm tag (get_or (lent_bytes tags) (place - 1) []) ∙ ap ordering_reverse tie))))
 
 -- it is greater
-pub place_further : (tags : List (Bor (List ℕ))) (place : ℕ) (tag : List ℕ) (d : Bor (List ℕ)) → 0 < place → place ≤ length tags → Greater ≡ text_cmp (get_or tags (place - 1) d).now tag → Behind (lent_bytes tags) place tag → Behind (lent_bytes tags) (place - 1) tag
+pub place_further : (tags : List (Bor (List ℕ))) (place : ℕ) (tag : List ℕ) (d : Bor (List ℕ)) → 0 < place → place ≤ length tags → Greater ≡ text_cmp (get_or tags (place - 1) d).now tag → ComesBehind (lent_bytes tags) place tag → ComesBehind (lent_bytes tags) (place - 1) tag
 place_further tags zero tag d some within is behind = absurd (omega (arith, some))
 place_further tags (suc i) tag d some within is behind =
     let below : i < length (lent_bytes tags) = omega (arith, within, length_lent tags) in
     let before : suc i - 1 ≡ i = omega arith in
     let higher : text_cmp (get_or (lent_bytes tags) i []) tag ≡ Greater = ap (λ t. text_cmp t tag) (lent_at tags i d (omega (arith, within))) ∙ ap (λ k. text_cmp (get_or tags k d).now tag) (sym before) ∙ sym is in
-    subst (λ k. Behind (lent_bytes tags) k tag) (sym before) (greater_from (lent_bytes tags) i tag below higher behind)
+    subst (λ k. ComesBehind (lent_bytes tags) k tag) (sym before) (greater_from (lent_bytes tags) i tag below higher behind)
 
 -- all of them are greater
-pub place_in_front : (tags : List (Bor (List ℕ))) (place : ℕ) (tag : List ℕ) → IsStrictlySortedBy text_cmp (lent_bytes tags) → place ≤ 0 → Behind (lent_bytes tags) place tag → tag ∷ lent_bytes tags ≡ in_byte_order (tag ∷ lent_bytes tags)
+pub place_in_front : (tags : List (Bor (List ℕ))) (place : ℕ) (tag : List ℕ) → IsStrictlySortedBy text_cmp (lent_bytes tags) → place ≤ 0 → ComesBehind (lent_bytes tags) place tag → tag ∷ lent_bytes tags ≡ in_byte_order (tag ∷ lent_bytes tags)
 place_in_front tags zero tag ordered first behind = inserted_between (lent_bytes tags) 0 tag ordered tt behind
 place_in_front tags (suc place) tag ordered first behind = absurd (omega (arith, first))
 

@@ -7,7 +7,7 @@ use Rattle.outcome_fold.specs.Order.{test_cmp, table}
 use Rattle.outcome_fold.specs.Rows.{open_tests}
 use Rattle.event_sift.specs.declared.rules.Rules.{Rules}
 use Rattle.event_sift.specs.declared.rules.ByRules.{ByRules}
-use Rattle.event_sift.specs.declared.held.Held.{Held}
+use Rattle.event_sift.specs.declared.open_events.Held.{Held}
 use Rattle.event_sift.specs.declared.sift.Sift.{Sift}
 use Rattle.event_sift.specs.Released.{part_at}
 
@@ -16,12 +16,12 @@ abbrev pub parts_in : Held → FinMap test_cmp (List Event)
 parts_in held = fin.from_entries {R = test_cmp} held.parts.entries
 
 -- the last part of each open test
-abbrev pub open_parts : List Event → FinMap test_cmp (List Event)
-open_parts seen = table {R = test_cmp} (part_at seen) (open_tests seen)
+abbrev pub open_part_events : List Event → FinMap test_cmp (List Event)
+open_part_events seen = table {R = test_cmp} (part_at seen) (open_tests seen)
 
 -- what is held of these events is the last part of each test that is open
 abbrev pub Holds : Held → List Event → Type 0
-Holds held seen = parts_in held ≡ open_parts seen
+Holds held seen = parts_in held ≡ open_part_events seen
 
 -- the sift has taken these events
 abbrev pub HasSifted : {P : Type 0} → Sift P → List Event → Type 0

@@ -6,8 +6,9 @@ ghost use Rattle.packet_codec.specs.Canonical.{canonical};
 ghost use Rattle.packet_codec.specs.Packet.{SpellsEvent};
 ghost use Rattle.packet_codec.specs.declared.event.Event.{Event as AnEvent};
 ghost use Rattle.outcome_fold.specs.Parts.{test_of};
+ghost use Rattle.outcome_fold.specs.TestPackets.{packets_at};
 ghost use Rattle.event_sift.specs.declared.held_packets.HeldTest.{HeldTest as AHeldTest};
-ghost use Rattle.event_sift.specs.PacketSifted.{begun_at, with_packet, other_packets_in, packets_at, packets_in};
+ghost use Rattle.event_sift.specs.PacketSifted.{begun_at, with_packet, other_packets_in, held_packets_in};
 
 use outcome_fold::TestKey;
 use packet_codec::Packet;
@@ -100,7 +101,7 @@ pub struct HeldPackets {
 impl HeldPackets {
     /// No packet. It takes no memory yet.
     pub fn new(alloc: Global) -> Self
-        ensures { packets_in result ≡ map.empty }
+        ensures { held_packets_in result ≡ map.empty }
     {
         HeldPackets {
             alloc,
@@ -124,8 +125,8 @@ impl HeldPackets {
     /// Puts the test that was heard last, if there is one, among the others.
     ///
     /// With `NoMemory` its packets are lost.
-    pub fn put_down(&mut self) -> Result<(), NoMemory>
-        ensures { OnOk result ((self.new.last ≡ None) × (other_packets_in self.new ≡ packets_in self.old)) }
+    pub fn set_aside(&mut self) -> Result<(), NoMemory>
+        ensures { OnOk result ((self.new.last ≡ None) × (other_packets_in self.new ≡ held_packets_in self.old)) }
     {
         let Some(HeldTest { key, packets }) = self.last.take() else {
             return Ok(());
@@ -159,9 +160,9 @@ impl HeldPackets {
     /// After `NoMemory` nothing is known of what is held.
     pub fn turn_to(&mut self, key: TestKey) -> Result<(), NoMemory>
         ensures last { OnOk result (IsSomeAnd self.new.last (λ last. last.key ≡ key)) }
-        ensures held { OnOk result (packets_in self.new ≡ begun_at (packets_in self.old) key) }
+        ensures held { OnOk result (held_packets_in self.new ≡ begun_at (held_packets_in self.old) key) }
     {
-        self.put_down()?;
+        self.set_aside()?;
         let packets = self.take(&key);
         self.last = Some(HeldTest { key, packets });
         Ok(())
@@ -197,7 +198,7 @@ impl HeldPackets {
     #[inline(always)]
     fn let_go(&mut self) -> Option<HeldTest>
         ensures last { result ≡ self.old.last }
-        ensures rest { (last : AHeldTest) → self.old.last ≡ Some last → packets_in self.new ≡ map.remove (packets_in self.old) last.key }
+        ensures rest { (last : AHeldTest) → self.old.last ≡ Some last → held_packets_in self.new ≡ map.remove (held_packets_in self.old) last.key }
     {
         let last = self.last.take()?;
         self.forget(&last.key);
@@ -216,7 +217,7 @@ impl HeldPackets {
         out: &mut Vec<u8>,
     ) -> Result<(), NoMemory>
         ensures out { (e : AnEvent) (last : AHeldTest) → SpellsEvent packet.now e → self.old.last ≡ Some last → OnOk result (out.new.items ≡ out.old.items ++ (if kept then last.packets ++ canonical e else [])) }
-        ensures held { (last : AHeldTest) → self.old.last ≡ Some last → OnOk result (packets_in self.new ≡ map.remove (packets_in self.old) last.key) }
+        ensures held { (last : AHeldTest) → self.old.last ≡ Some last → OnOk result (held_packets_in self.new ≡ map.remove (held_packets_in self.old) last.key) }
     {
         let Some(HeldTest { key: _key, packets }) = self.let_go() else {
             return Ok(());

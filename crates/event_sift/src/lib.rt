@@ -8,7 +8,7 @@
 //! before, where it does not say otherwise.
 //!
 //! - `rules`, `predicate`: which rows are kept, and what says so of one after another
-//! - `part`, `held`: the events of the open tests
+//! - `part`, `open_events`: the events of the open tests
 //! - `part_row`: the row of some events of a test
 //! - `sift`: what is released as events come, and at the end
 //! - `held_packets`: the packets of the open tests
@@ -18,9 +18,9 @@
 #![tactic(auto)]
 
 mod filtered_list;
-mod held;
 mod held_packets;
 mod lent_tags;
+mod open_events;
 mod packet_sift;
 mod part;
 mod part_row;
@@ -33,6 +33,6 @@ pub use filtered_list::filtered_events;
 pub use packet_sift::PacketSift;
 pub use part::Part;
 pub use predicate::Predicate;
-pub use rules::{ByRules, Rules, keep};
+pub use rules::{ByRules, Rules, keeps_row};
 pub use sift::Sift;
 pub use tagger::Tagger;

@@ -4,12 +4,14 @@ ghost use Rattle.std.specs.Prelude.{◌≡◌, List, [], ◌∷◌, ◌++◌, If
 ghost use Rattle.std.specs.List.{flat_map};
 ghost use Rattle.packet_codec.specs.Packet.{SpellsEvent};
 ghost use Rattle.packet_codec.specs.declared.event.Event.{Event as AnEvent};
+ghost use Rattle.packet_codec.specs.Canonical.{packets_of};
 ghost use Rattle.event_sift.specs.Keeping.{keeps};
 ghost use Rattle.event_sift.specs.Released.{released, released_at_end};
 ghost use Rattle.outcome_fold.specs.Folded.{HasSeen};
 ghost use Rattle.outcome_fold.specs.Rows.{completed_row};
+ghost use Rattle.outcome_fold.specs.TestPackets.{test_of_row};
 ghost use Rattle.event_sift.specs.declared.held_packets.HeldTest.{HeldTest as AHeldTest};
-ghost use Rattle.event_sift.specs.PacketSifted.{HasSifted, IsNext, open_packets, other_packets_in, packets_if_kept, packets_in, packets_of, predicate_of, rules_of, test_of_row};
+ghost use Rattle.event_sift.specs.PacketSifted.{HasSiftedPackets, IsNext, open_packets, other_packets_in, packets_if_kept, held_packets_in, packet_predicate_of, packet_rules_of};
 
 use crate::held_packets::HeldPackets;
 use crate::predicate::Predicate;
@@ -39,9 +41,9 @@ impl<'a, P: Predicate + Drop> PacketSift<'a, P> {
     /// A sift that has taken no event. The predicate goes by the same rules, which it may borrow. It takes no memory yet.
     pub fn new(alloc: Global, rules: &'a Rules, predicate: P) -> Self
         requires faithful { P.rules predicate ≡ rules.now }
-        ensures rules { rules_of result ≡ rules.now }
-        ensures predicate { predicate_of result ≡ predicate }
-        ensures taken { HasSifted result [] }
+        ensures rules { packet_rules_of result ≡ rules.now }
+        ensures predicate { packet_predicate_of result ≡ predicate }
+        ensures taken { HasSiftedPackets result [] }
     {
         PacketSift {
             alloc,
@@ -54,12 +56,12 @@ impl<'a, P: Predicate + Drop> PacketSift<'a, P> {
 
     // Whether the row's test is kept, by the predicate.
     fn is_kept(&mut self, row: &Row) -> Result<bool, NoMemory>
-        requires faithful { P.rules (predicate_of self.old) ≡ rules_of self.old }
-        ensures kept { IfOk result (λ kept. kept ≡ keeps (rules_of self.old) row.now) }
+        requires faithful { P.rules (packet_predicate_of self.old) ≡ packet_rules_of self.old }
+        ensures kept { IfOk result (λ kept. kept ≡ keeps (packet_rules_of self.old) row.now) }
         ensures held { self.new.held ≡ self.old.held }
         ensures fold { self.new.fold ≡ self.old.fold }
-        ensures rules { rules_of self.new ≡ rules_of self.old }
-        ensures predicate { P.rules (predicate_of self.new) ≡ P.rules (predicate_of self.old) }
+        ensures rules { packet_rules_of self.new ≡ packet_rules_of self.old }
+        ensures predicate { P.rules (packet_predicate_of self.new) ≡ P.rules (packet_predicate_of self.old) }
     {
         self.predicate.is_kept(row)
     }
@@ -71,12 +73,12 @@ impl<'a, P: Predicate + Drop> PacketSift<'a, P> {
         row: Option<Row>,
         out: &mut Vec<u8>,
     ) -> Result<(), NoMemory>
-        requires faithful { P.rules (predicate_of self.old) ≡ rules_of self.old }
-        ensures released { (seen : List AnEvent) (e : AnEvent) (last : AHeldTest) → SpellsEvent packet.now e → row ≡ completed_row seen e → IsNext self.old.held seen e last → OnOk result (out.new.items ≡ out.old.items ++ packets_of (released (keeps (rules_of self.old)) seen e)) }
-        ensures held { (seen : List AnEvent) (e : AnEvent) (last : AHeldTest) → SpellsEvent packet.now e → row ≡ completed_row seen e → IsNext self.old.held seen e last → OnOk result (packets_in self.new.held ≡ open_packets (seen ++ e ∷ [])) }
+        requires faithful { P.rules (packet_predicate_of self.old) ≡ packet_rules_of self.old }
+        ensures released { (seen : List AnEvent) (e : AnEvent) (last : AHeldTest) → SpellsEvent packet.now e → row ≡ completed_row seen e → IsNext self.old.held seen e last → OnOk result (out.new.items ≡ out.old.items ++ packets_of (released (keeps (packet_rules_of self.old)) seen e)) }
+        ensures held { (seen : List AnEvent) (e : AnEvent) (last : AHeldTest) → SpellsEvent packet.now e → row ≡ completed_row seen e → IsNext self.old.held seen e last → OnOk result (held_packets_in self.new.held ≡ open_packets (seen ++ e ∷ [])) }
         ensures fold { self.new.fold ≡ self.old.fold }
-        ensures rules { rules_of self.new ≡ rules_of self.old }
-        ensures predicate { P.rules (predicate_of self.new) ≡ P.rules (predicate_of self.old) }
+        ensures rules { packet_rules_of self.new ≡ packet_rules_of self.old }
+        ensures predicate { P.rules (packet_predicate_of self.new) ≡ P.rules (packet_predicate_of self.old) }
     {
         let Some(row) = row else {
             return self.held.go_on(packet);
@@ -93,12 +95,12 @@ impl<'a, P: Predicate + Drop> PacketSift<'a, P> {
         row: Option<Row>,
         out: &mut Vec<u8>,
     ) -> Result<(), NoMemory>
-        requires faithful { P.rules (predicate_of self.old) ≡ rules_of self.old }
-        ensures released { (seen : List AnEvent) (e : AnEvent) → SpellsEvent packet.now e → row ≡ completed_row seen e → packets_in self.old.held ≡ open_packets seen → OnOk result (out.new.items ≡ out.old.items ++ packets_of (released (keeps (rules_of self.old)) seen e)) }
-        ensures held { (seen : List AnEvent) (e : AnEvent) → SpellsEvent packet.now e → row ≡ completed_row seen e → packets_in self.old.held ≡ open_packets seen → OnOk result (packets_in self.new.held ≡ open_packets (seen ++ e ∷ [])) }
+        requires faithful { P.rules (packet_predicate_of self.old) ≡ packet_rules_of self.old }
+        ensures released { (seen : List AnEvent) (e : AnEvent) → SpellsEvent packet.now e → row ≡ completed_row seen e → held_packets_in self.old.held ≡ open_packets seen → OnOk result (out.new.items ≡ out.old.items ++ packets_of (released (keeps (packet_rules_of self.old)) seen e)) }
+        ensures held { (seen : List AnEvent) (e : AnEvent) → SpellsEvent packet.now e → row ≡ completed_row seen e → held_packets_in self.old.held ≡ open_packets seen → OnOk result (held_packets_in self.new.held ≡ open_packets (seen ++ e ∷ [])) }
         ensures fold { self.new.fold ≡ self.old.fold }
-        ensures rules { rules_of self.new ≡ rules_of self.old }
-        ensures predicate { P.rules (predicate_of self.new) ≡ P.rules (predicate_of self.old) }
+        ensures rules { packet_rules_of self.new ≡ packet_rules_of self.old }
+        ensures predicate { P.rules (packet_predicate_of self.new) ≡ P.rules (packet_predicate_of self.old) }
     {
         let Some(key) = key_in(self.alloc, packet)? else {
             return packet.put_shortest(out);
@@ -114,11 +116,11 @@ impl<'a, P: Predicate + Drop> PacketSift<'a, P> {
     /// After `NoMemory` the sift is given up: its rules are as before, its predicate goes by them, and of the packets
     /// that it held, and of what was appended, nothing is known.
     pub fn hear(&mut self, packet: &Packet<'_>, out: &mut Vec<u8>) -> Result<(), NoMemory>
-        requires faithful { P.rules (predicate_of self.old) ≡ rules_of self.old }
-        ensures released { (seen : List AnEvent) (e : AnEvent) → SpellsEvent packet.now e → HasSifted self.old seen → OnOk result (out.new.items ≡ out.old.items ++ packets_of (released (keeps (rules_of self.old)) seen e)) }
-        ensures taken { (seen : List AnEvent) (e : AnEvent) → SpellsEvent packet.now e → HasSifted self.old seen → OnOk result (HasSifted self.new (seen ++ e ∷ [])) }
-        ensures rules { rules_of self.new ≡ rules_of self.old }
-        ensures predicate { P.rules (predicate_of self.new) ≡ P.rules (predicate_of self.old) }
+        requires faithful { P.rules (packet_predicate_of self.old) ≡ packet_rules_of self.old }
+        ensures released { (seen : List AnEvent) (e : AnEvent) → SpellsEvent packet.now e → HasSiftedPackets self.old seen → OnOk result (out.new.items ≡ out.old.items ++ packets_of (released (keeps (packet_rules_of self.old)) seen e)) }
+        ensures taken { (seen : List AnEvent) (e : AnEvent) → SpellsEvent packet.now e → HasSiftedPackets self.old seen → OnOk result (HasSiftedPackets self.new (seen ++ e ∷ [])) }
+        ensures rules { packet_rules_of self.new ≡ packet_rules_of self.old }
+        ensures predicate { P.rules (packet_predicate_of self.new) ≡ P.rules (packet_predicate_of self.old) }
     {
         let row = self.fold.hear(packet)?;
         if self.held.holds(packet) {
@@ -134,10 +136,10 @@ impl<'a, P: Predicate + Drop> PacketSift<'a, P> {
         held: &HeldPackets,
         out: &mut Vec<u8>,
     ) -> Result<(), NoMemory>
-        requires faithful { P.rules (predicate_of self.old) ≡ rules_of self.old }
-        ensures released { OnOk result (out.new.items ≡ out.old.items ++ packets_if_kept (keeps (rules_of self.old)) (other_packets_in held.now) row) }
-        ensures rules { rules_of self.new ≡ rules_of self.old }
-        ensures predicate { P.rules (predicate_of self.new) ≡ P.rules (predicate_of self.old) }
+        requires faithful { P.rules (packet_predicate_of self.old) ≡ packet_rules_of self.old }
+        ensures released { OnOk result (out.new.items ≡ out.old.items ++ packets_if_kept (keeps (packet_rules_of self.old)) (other_packets_in held.now) row) }
+        ensures rules { packet_rules_of self.new ≡ packet_rules_of self.old }
+        ensures predicate { P.rules (packet_predicate_of self.new) ≡ P.rules (packet_predicate_of self.old) }
     {
         if self.is_kept(&row)? {
             held.put(&key_of_row(row), out)
@@ -153,8 +155,8 @@ impl<'a, P: Predicate + Drop> PacketSift<'a, P> {
         held: &HeldPackets,
         out: &mut Vec<u8>,
     ) -> Result<(), NoMemory>
-        requires faithful { P.rules (predicate_of self.old) ≡ rules_of self.old }
-        ensures { OnOk result (out.new.items ≡ out.old.items ++ flat_map (packets_if_kept (keeps (rules_of self.old)) (other_packets_in held.now)) rows.items) }
+        requires faithful { P.rules (packet_predicate_of self.old) ≡ packet_rules_of self.old }
+        ensures { OnOk result (out.new.items ≡ out.old.items ++ flat_map (packets_if_kept (keeps (packet_rules_of self.old)) (other_packets_in held.now)) rows.items) }
     {
         for row in rows {
             self.release_open(row, held, out)?;
@@ -169,10 +171,10 @@ impl<'a, P: Predicate + Drop> PacketSift<'a, P> {
         mut held: HeldPackets,
         out: &mut Vec<u8>,
     ) -> Result<(), NoMemory>
-        requires faithful { P.rules (predicate_of self.old) ≡ rules_of self.old }
-        ensures { (seen : List AnEvent) → HasSeen fold seen → packets_in held ≡ open_packets seen → OnOk result (out.new.items ≡ out.old.items ++ packets_of (released_at_end (keeps (rules_of self.old)) seen)) }
+        requires faithful { P.rules (packet_predicate_of self.old) ≡ packet_rules_of self.old }
+        ensures { (seen : List AnEvent) → HasSeen fold seen → held_packets_in held ≡ open_packets seen → OnOk result (out.new.items ≡ out.old.items ++ packets_of (released_at_end (keeps (packet_rules_of self.old)) seen)) }
     {
-        held.put_down()?;
+        held.set_aside()?;
         let rows = fold.close()?;
         self.release_all(rows, &held, out)
     }
@@ -181,8 +183,8 @@ impl<'a, P: Predicate + Drop> PacketSift<'a, P> {
     ///
     /// After `NoMemory` the sift is given up too, and of what was appended nothing is known.
     pub fn close(self, out: &mut Vec<u8>) -> Result<(), NoMemory>
-        requires faithful { P.rules (predicate_of self) ≡ rules_of self }
-        ensures { (seen : List AnEvent) → HasSifted self.entry seen → OnOk result (out.new.items ≡ out.old.items ++ packets_of (released_at_end (keeps (rules_of self.entry)) seen)) }
+        requires faithful { P.rules (packet_predicate_of self) ≡ packet_rules_of self }
+        ensures { (seen : List AnEvent) → HasSiftedPackets self.entry seen → OnOk result (out.new.items ≡ out.old.items ++ packets_of (released_at_end (keeps (packet_rules_of self.entry)) seen)) }
     {
         let PacketSift {
             alloc,

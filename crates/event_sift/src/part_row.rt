@@ -78,7 +78,7 @@ fn kept_reason(alloc: Global, part: &[Event]) -> Result<KeptText, NoMemory>
 
 // Their first line.
 fn reason_of(alloc: Global, part: &[Event]) -> Result<Bytes, NoMemory>
-    ensures { IfOk result (λ reason. reason ≡ parts.first_line (parts.reason_of part.now)) }
+    ensures { IfOk result (λ reason. reason ≡ parts.first_text_line (parts.reason_of part.now)) }
 {
     let reason = kept_reason(alloc, part)?;
     Ok(reason.into_first_line())
@@ -86,7 +86,7 @@ fn reason_of(alloc: Global, part: &[Event]) -> Result<Bytes, NoMemory>
 
 // The reason of a row that ended so: that of its events where the test was skipped, else none.
 fn row_reason(alloc: Global, ended: Ended, part: &[Event]) -> Result<Bytes, NoMemory>
-    ensures { IfOk result (λ reason. reason ≡ (if rows.is_skip ended then parts.first_line (parts.reason_of part.now) else [])) }
+    ensures { IfOk result (λ reason. reason ≡ (if rows.is_skip ended then parts.first_text_line (parts.reason_of part.now) else [])) }
 {
     if ended == Ended::Skip {
         reason_of(alloc, part)

@@ -125,7 +125,7 @@ impl<'r> Predicate for ByRules<'r> {
 /// Whether the rules keep the row. They do where it is allowed how the test ended, and the row has every tag that is
 /// asked for and none that is not wanted. In its id one of the patterns that are asked for must be found, where there
 /// are any, and none of the others. For many rows `ByRules` is quicker.
-pub fn keep(alloc: Global, rules: &Rules, row: &Row) -> Result<bool, NoMemory>
+pub fn keeps_row(alloc: Global, rules: &Rules, row: &Row) -> Result<bool, NoMemory>
     ensures { IfOk result (λ kept. kept ≡ keeping.keeps rules.now row.now) }
 {
     let mut predicate = ByRules::new(alloc, rules)?;

@@ -9,7 +9,7 @@ ghost use Rattle.outcome_fold.specs.Rows.{part_with, row_of};
 ghost use Rattle.event_sift.specs.Released.{completed_part_row, if_kept, parts_at_end, released, released_at_end};
 ghost use Rattle.event_sift.specs.Sifted.{HasSifted, Holds, parts_in, predicate_of, rules_of};
 
-use crate::held::Held;
+use crate::open_events::Held;
 use crate::part::Part;
 use crate::part_row::{part_row, start_of};
 use crate::predicate::Predicate;

@@ -4,19 +4,18 @@ use Rattle.std.proofs.lemmas.List.{take-append-drop, length-drop, length-take-le
 use Rattle.std.specs.List.{concat}
 use Rattle.std.specs.Option.{option_to_list}
 use Rattle.packet_codec.specs.declared.event.Event.{Event}
-use Rattle.packet_codec.specs.Canonical.{canonical}
+use Rattle.packet_codec.specs.Canonical.{canonical, packets_of}
 use Rattle.tap_bridge.proofs.LongLines.{one_piece}
 use Rattle.sub_export.specs.declared.job.Job.{Job}
-use Rattle.sub_export.specs.Output.{piece_event, pieces_of, output_events, last_event}
-use Rattle.filter_cli.specs.Events.{packets_of}
+use Rattle.sub_export.specs.Output.{attached_piece_event, pieces_of, output_events, last_event}
 use Rattle.filter_cli.specs.Tapped.{AreFull}
-use Rattle.filter_cli.specs.TapLaws.{behind_pieces}
+use Rattle.filter_cli.specs.TapLaws.{full_pieces_first, packets_then}
 use Rattle.filter_cli.specs.Pipe.{Adds}
 use Rattle.packet_codec.specs.Grammar.{AreBytes}
 use Rattle.edge_io.specs.Bytes.{AppendsPrefix}
 use Rattle.filter_cli.specs.Pumping.{WritesFirst}
-use Rattle.filter_cli.specs.Attached.{events_of_pieces, IsOutput, HasAttached}
-use Rattle.filter_cli.specs.AttachedLaws.{events_then, packets_then}
+use Rattle.filter_cli.specs.Attached.{events_of_pieces, IsAttachedOutput, HasAttached}
+use Rattle.filter_cli.specs.AttachedLaws.{piece_events_then}
 
 concat_push : (pieces : List (List ℕ)) (piece : List ℕ) → concat (pieces ++ piece ∷ []) ≡ concat pieces ++ piece
 concat_push [] piece = append-nil piece
@@ -39,7 +38,7 @@ fed_more job held piece fed shown old h short = record {
   };
 }
 
-pub one_event : (job : Job) (piece : List ℕ) (event : Event) → Some event ≡ piece_event job piece → packets_of (events_of_pieces job (piece ∷ [])) ≡ canonical event
+pub one_event : (job : Job) (piece : List ℕ) (event : Event) → Some event ≡ attached_piece_event job piece → packets_of (events_of_pieces job (piece ∷ [])) ≡ canonical event
 one_event job piece event is = sym (ap (λ o. packets_of (option_to_list o ++ [])) is) ∙ append-nil (canonical event)
 
 pub fed_full : (job : Job) (held front rest piece fed shown old new : List ℕ) → HasAttached job held fed shown → piece ≡ front ++ rest → length (held ++ front) ≡ 65536 → length rest < 65536 → new ≡ old ++ packets_of (events_of_pieces job ((held ++ front) ∷ [])) → Adds old new (λ more. HasAttached job rest (fed ++ piece) (shown ++ more))
@@ -53,19 +52,19 @@ fed_full job held front rest piece fed shown old new h split filled few grown = 
     full = full_push h.pieces (held ++ front) h.full filled;
     short = few;
     made = ap (λ (l : List ℕ). l ++ packets_of (events_of_pieces job ((held ++ front) ∷ []))) h.made ∙ sym (packets_then (events_of_pieces job h.pieces) (events_of_pieces job ((held ++ front) ∷ [])))
-        ∙ ap packets_of (sym (events_then job h.pieces ((held ++ front) ∷ [])));
+        ∙ ap packets_of (sym (piece_events_then job h.pieces ((held ++ front) ∷ [])));
   };
 }
 
 -- the end, where the rest gives this text
 ended : (job : Job) (held fed shown rest : List ℕ) → HasAttached job held fed shown → rest ≡ packets_of (events_of_pieces job (pieces_of held)) → shown ++ (rest ++ canonical (last_event job)) ≡ packets_of (output_events job fed)
 ended job held fed shown rest h is =
-    let cut : pieces_of fed ≡ h.pieces ++ pieces_of held = ap pieces_of h.joined ∙ behind_pieces h.pieces held h.full in
-    let events : events_of_pieces job (pieces_of fed) ≡ events_of_pieces job h.pieces ++ events_of_pieces job (pieces_of held) = ap (events_of_pieces job) cut ∙ events_then job h.pieces (pieces_of held) in
+    let cut : pieces_of fed ≡ h.pieces ++ pieces_of held = ap pieces_of h.joined ∙ full_pieces_first h.pieces held h.full in
+    let events : events_of_pieces job (pieces_of fed) ≡ events_of_pieces job h.pieces ++ events_of_pieces job (pieces_of held) = ap (events_of_pieces job) cut ∙ piece_events_then job h.pieces (pieces_of held) in
     let all : packets_of (events_of_pieces job (pieces_of fed)) ≡ shown ++ rest = ap packets_of events ∙ packets_then (events_of_pieces job h.pieces) (events_of_pieces job (pieces_of held)) ∙ (λ i. sym h.made i ++ sym is i) in
     sym (packets_then (events_of_pieces job (pieces_of fed)) (last_event job ∷ []) ∙ (λ i. all i ++ append-nil (canonical (last_event job)) i) ∙ append_assoc shown rest (canonical (last_event job)))
 
-pub ended_all : (job : Job) (held fed shown old mid new : List ℕ) → mid ≡ old ++ packets_of (events_of_pieces job (pieces_of held)) → new ≡ mid ++ canonical (last_event job) → HasAttached job held fed shown → Adds old new (λ more. IsOutput job fed (shown ++ more) 0)
+pub ended_all : (job : Job) (held fed shown old mid new : List ℕ) → mid ≡ old ++ packets_of (events_of_pieces job (pieces_of held)) → new ≡ mid ++ canonical (last_event job) → HasAttached job held fed shown → Adds old new (λ more. IsAttachedOutput job fed (shown ++ more) 0)
 ended_all job held fed shown old mid new before grown h =
     let rest = packets_of (events_of_pieces job (pieces_of held)) in
     record {
@@ -96,8 +95,8 @@ pub attached_none : (job : Job) (held : List ℕ) → held ≡ [] → HasAttache
 attached_none job held none = record { pieces = []; joined = sym none; full = tt; short = rw none (omega arith); made = refl }
 
 -- a stream has a text, so a first part of it was written
-pub output_prefix : (job : Job) (told old new : Option (List ℕ)) → IfSome told (λ bytes. AreBytes bytes → (all : List ℕ) (status : ℕ) → IsOutput job bytes all status → AppendsPrefix old new all) → IfSome told (WritesFirst (IsOutput job) old new)
+pub output_prefix : (job : Job) (told old new : Option (List ℕ)) → IfSome told (λ bytes. AreBytes bytes → (all : List ℕ) (status : ℕ) → IsAttachedOutput job bytes all status → AppendsPrefix old new all) → IfSome told (WritesFirst (IsAttachedOutput job) old new)
 output_prefix job None old new each = tt
 output_prefix job (Some bytes) old new each = λ are.
-    let whole : IsOutput job bytes (packets_of (output_events job bytes)) 0 = (refl, refl) in
+    let whole : IsAttachedOutput job bytes (packets_of (output_events job bytes)) 0 = (refl, refl) in
     record { text = _; status = 0; filtered = whole; written = each are _ 0 whole }

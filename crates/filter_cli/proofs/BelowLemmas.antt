@@ -8,7 +8,7 @@ use Rattle.event_sift.specs.Keeping.{keeps}
 use Rattle.sub_export.specs.Records.{csv_head_text}
 use Rattle.stream_end.specs.Inside.{ends_inside}
 use Rattle.filter_cli.specs.declared.filter.StreamEnd.{StreamEnd}
-use Rattle.filter_cli.specs.declared.pass.PumpFault.{PumpFault}
+use Rattle.filter_cli.specs.declared.pump_loop.PumpFault.{PumpFault}
 use Rattle.filter_cli.specs.Exporting.{csv_plan, IsCsvSeen, IsCsvFiltered}
 use Rattle.filter_cli.specs.Headed.{IsSeenBelow, IsWholeBelow}
 use Rattle.filter_cli.specs.Pipe.{Pipe}

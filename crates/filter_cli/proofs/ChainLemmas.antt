@@ -11,7 +11,7 @@ use Rattle.packet_codec.specs.Canonical.{canonical}
 use Rattle.sub_export.specs.declared.job.Attachment.{Attachment}
 use Rattle.sub_export.specs.declared.job.Job.{Job}
 use Rattle.sub_export.specs.Output.{last_event}
-use Rattle.filter_cli.specs.Attached.{IsOutputSeen, IsOutput, WritesAlone}
+use Rattle.filter_cli.specs.Attached.{IsOutputSeen, IsAttachedOutput, WritesAlone}
 use Rattle.sub_export.specs.Records.{csv_head_text}
 use Rattle.event_sift.specs.Keeping.{keeps}
 use Rattle.filter_cli.specs.Exporting.{csv_plan, IsCsvSeen, IsCsvFiltered}
@@ -25,12 +25,12 @@ use Rattle.filter_cli.specs.Streams.{of_job, writing_of, unread_by, unread_text,
 use Rattle.filter_cli.specs.FileReads.{FeedsFile}
 use Rattle.filter_cli.specs.Outside.{Reach}
 use Rattle.filter_cli.specs.declared.file_loop.FileFault.{FileFault}
-use Rattle.filter_cli.specs.Program.{PumpsOrLeaves, Passes, Checked, FeedsNamed, MakesAndFeeds, Takes, Performs, Tells}
-use Rattle.filter_cli.specs.declared.asked.Asked.{Asked}
-use Rattle.filter_cli.specs.declared.asked.Request.{Request}
-use Rattle.filter_cli.specs.declared.asked.Asked.TheVariants.{Output}
+use Rattle.filter_cli.specs.Program.{PumpsOrLeaves, FiltersOrLeaves, Checked, FeedsNamed, MakesAndFeeds, FiltersFrom, FilterPerforms, FilterTells}
+use Rattle.filter_cli.specs.declared.request.Asked.{Asked}
+use Rattle.filter_cli.specs.declared.request.Request.{Request}
+use Rattle.filter_cli.specs.declared.request.Asked.TheVariants.{Output}
 use Rattle.filter_cli.specs.declared.filter.StreamEnd.{StreamEnd}
-use Rattle.filter_cli.specs.declared.pass.PumpFault.{PumpFault}
+use Rattle.filter_cli.specs.declared.pump_loop.PumpFault.{PumpFault}
 use Rattle.filter_cli.specs.declared.refusal.UsageFault.{UsageFault}
 use Rattle.filter_cli.specs.declared.refusal.Refusal.{Refusal}
 
@@ -51,7 +51,7 @@ pub gives : {W A R : Type 0} {value : A} {after : W} → Gives {R = R} value aft
 gives = record { answer = refl; same = refl }
 
 -- good patterns, and then the rest
-pub checked : (asked : Asked) (before after : Pipe) (result : Result StreamEnd Refusal) → All IsPattern (patterns_of asked) → Passes asked before after result → Checked asked before after result
+pub checked : (asked : Asked) (before after : Pipe) (result : Result StreamEnd Refusal) → All IsPattern (patterns_of asked) → FiltersOrLeaves asked before after result → Checked asked before after result
 checked asked before after result good next = still_done tt good next
 
 pub none_given : All IsPattern []
@@ -59,23 +59,23 @@ none_given k d lt = absurd (omega (arith, lt))
 
 -- ---- the same of another term of the same value
 
-pub performs_as : (fault given : UsageFault) (request other : Option Request) (before after : Reach) (result : Result StreamEnd Refusal) → given ≡ fault → other ≡ request → Performs given other before after result → Performs fault request before after result
+pub performs_as : (fault given : UsageFault) (request other : Option Request) (before after : Reach) (result : Result StreamEnd Refusal) → given ≡ fault → other ≡ request → FilterPerforms given other before after result → FilterPerforms fault request before after result
 performs_as fault given request other before after result fault_is is done =
-    subst (λ (r : Option Request). Performs fault r before after result) is (subst (λ (f : UsageFault). Performs f other before after result) fault_is done)
+    subst (λ (r : Option Request). FilterPerforms fault r before after result) is (subst (λ (f : UsageFault). FilterPerforms f other before after result) fault_is done)
 
-pub takes_as : (file given : Option (List ℕ)) (asked : Asked) (before after : Reach) (result : Result StreamEnd Refusal) → given ≡ file → Takes given asked before after result → Takes file asked before after result
-takes_as file given asked before after result is done = subst (λ (f : Option (List ℕ)). Takes f asked before after result) is done
+pub takes_as : (file given : Option (List ℕ)) (asked : Asked) (before after : Reach) (result : Result StreamEnd Refusal) → given ≡ file → FiltersFrom given asked before after result → FiltersFrom file asked before after result
+takes_as file given asked before after result is done = subst (λ (f : Option (List ℕ)). FiltersFrom f asked before after result) is done
 
 pub checked_as : (asked given : Asked) (before after : Pipe) (result : Result StreamEnd Refusal) → given ≡ asked → Checked given before after result → Checked asked before after result
 checked_as asked given before after result is done = subst (λ (a : Asked). Checked a before after result) is done
 
 -- ---- with a file by its name
 
-pub named_as : (asked given : Asked) (name : List ℕ) (before after : Reach) (result : Result StreamEnd Refusal) → given ≡ asked → Takes (Some name) given before after result → Takes (Some name) asked before after result
-named_as asked given name before after result is done = subst (λ (a : Asked). Takes (Some name) a before after result) is done
+pub named_as : (asked given : Asked) (name : List ℕ) (before after : Reach) (result : Result StreamEnd Refusal) → given ≡ asked → FiltersFrom (Some name) given before after result → FiltersFrom (Some name) asked before after result
+named_as asked given name before after result is done = subst (λ (a : Asked). FiltersFrom (Some name) a before after result) is done
 
 -- good patterns, and then the filter and its file
-pub checked_named : (asked : Asked) (name : List ℕ) (before after : Reach) (result : Result StreamEnd Refusal) → All IsPattern (patterns_of asked) → MakesAndFeeds name (inside_by (writing_of asked)) (sees_by (writing_of asked)) (ends_by (writing_of asked)) before after result → Takes (Some name) asked before after result
+pub checked_named : (asked : Asked) (name : List ℕ) (before after : Reach) (result : Result StreamEnd Refusal) → All IsPattern (patterns_of asked) → MakesAndFeeds name (inside_by (writing_of asked)) (sees_by (writing_of asked)) (ends_by (writing_of asked)) before after result → FiltersFrom (Some name) asked before after result
 checked_named asked name before after result good next = still_done tt good next
 
 -- the filter was made
@@ -90,8 +90,8 @@ plan_named plan given name before after result is feeds = subst (λ (p : Plan). 
 pub records_named_as : (rules given : Rules) (name : List ℕ) (before after : Reach) (result : Result StreamEnd Refusal) → given ≡ rules → MakesAndFeeds name ends_inside (IsCsvSeen given) (IsCsvFiltered given) before after result → MakesAndFeeds name ends_inside (IsCsvSeen rules) (IsCsvFiltered rules) before after result
 records_named_as rules given name before after result is feeds = subst (λ (r : Rules). MakesAndFeeds name ends_inside (IsCsvSeen r) (IsCsvFiltered r) before after result) is feeds
 
-pub tells_as : (name given : List ℕ) (outcome : Result StreamEnd Refusal) (before after : Seen (List ℕ)) (answer : ℕ) → given ≡ name → Tells given outcome before after answer → Tells name outcome before after answer
-tells_as name given outcome before after answer is tells = subst (λ (n : List ℕ). Tells n outcome before after answer) is tells
+pub tells_as : (name given : List ℕ) (outcome : Result StreamEnd Refusal) (before after : Seen (List ℕ)) (answer : ℕ) → given ≡ name → FilterTells given outcome before after answer → FilterTells name outcome before after answer
+tells_as name given outcome before after answer is tells = subst (λ (n : List ℕ). FilterTells n outcome before after answer) is tells
 
 -- what a plan does
 abbrev pub PumpsBy : Plan → Pipe → Pipe → Result StreamEnd PumpFault → Type 0
@@ -106,12 +106,12 @@ records_as rules given before after result is pumps = subst (λ (r : Rules). Pum
 
 -- ---- the events that words ask for
 
-attaches_with : (job : Job) (attachment : Option Attachment) (before after : Pipe) (result : Result StreamEnd PumpFault) → IsTrue (is_some attachment) → Pumps in_no_packet (IsOutputSeen job) (IsOutput job) before after result → PumpsOrLeaves (unread_by job attachment) (of_job job) before after result
+attaches_with : (job : Job) (attachment : Option Attachment) (before after : Pipe) (result : Result StreamEnd PumpFault) → IsTrue (is_some attachment) → Pumps in_no_packet (IsOutputSeen job) (IsAttachedOutput job) before after result → PumpsOrLeaves (unread_by job attachment) (of_job job) before after result
 attaches_with job None before after result some pumps = absurd (true≢false (sym some))
 attaches_with job (Some attachment) before after result some pumps = pumps
 
 -- a job that attaches a file reads the input
-pub attaches_as : (job : Job) (before after : Pipe) (result : Result StreamEnd PumpFault) → IsTrue (is_some job.attachment) → Pumps in_no_packet (IsOutputSeen job) (IsOutput job) before after result → PumpsOrLeaves (unread_text (Output job)) (writing_of (Output job)) before after result
+pub attaches_as : (job : Job) (before after : Pipe) (result : Result StreamEnd PumpFault) → IsTrue (is_some job.attachment) → Pumps in_no_packet (IsOutputSeen job) (IsAttachedOutput job) before after result → PumpsOrLeaves (unread_text (Output job)) (writing_of (Output job)) before after result
 attaches_as job before after result some pumps = attaches_with job job.attachment before after result some pumps
 
 -- one that attaches nothing leaves it unread
@@ -133,5 +133,5 @@ csv_named head rules other name before after result is same feeds =
     (subst (λ (h : List ℕ). MakesAndFeeds name ends_inside (IsSeenBelow h (IsSeen (csv_plan (keeps other)))) (IsWholeBelow h (IsFiltered (csv_plan (keeps other)))) before after result) is feeds)
 
 -- a job by the same value
-pub job_as : (job given : Job) (name : List ℕ) (before after : Reach) (result : Result StreamEnd Refusal) → given ≡ job → MakesAndFeeds name in_no_packet (IsOutputSeen given) (IsOutput given) before after result → MakesAndFeeds name in_no_packet (IsOutputSeen job) (IsOutput job) before after result
-job_as job given name before after result is feeds = subst (λ (j : Job). MakesAndFeeds name in_no_packet (IsOutputSeen j) (IsOutput j) before after result) is feeds
+pub job_as : (job given : Job) (name : List ℕ) (before after : Reach) (result : Result StreamEnd Refusal) → given ≡ job → MakesAndFeeds name in_no_packet (IsOutputSeen given) (IsAttachedOutput given) before after result → MakesAndFeeds name in_no_packet (IsOutputSeen job) (IsAttachedOutput job) before after result
+job_as job given name before after result is feeds = subst (λ (j : Job). MakesAndFeeds name in_no_packet (IsOutputSeen j) (IsAttachedOutput j) before after result) is feeds

@@ -7,12 +7,12 @@ use Rattle.filter_cli.specs.FileReads.{left_of_file, file_pipe, IsAbsent, SaysWh
 use Rattle.filter_cli.specs.Pipe.{Pipe}
 use Rattle.filter_cli.specs.Outside.{Reach}
 use Rattle.filter_cli.specs.Tools.{tool_of}
-use Rattle.filter_cli.specs.Words.{request_of, asked_of, file_in}
+use Rattle.filter_cli.specs.Words.{request_of, asked_by_words, input_file_in}
 use Rattle.filter_cli.specs.Streams.{writing_of, unread_with, text_unread, inside_by, sees_by, ends_by, AsksFor, HasBadPattern}
-use Rattle.filter_cli.specs.Refusals.{usage_fault, file_code, code_of}
-use Rattle.filter_cli.specs.Program.{FeedsNamed, MakesAndFeeds, Takes, Performs, Filters}
-use Rattle.filter_cli.specs.declared.asked.Asked.{Asked}
-use Rattle.filter_cli.specs.declared.asked.Request.{Request}
+use Rattle.filter_cli.specs.Refusals.{usage_fault, file_exit_status, filter_exit_status}
+use Rattle.filter_cli.specs.Program.{FeedsNamed, MakesAndFeeds, FiltersFrom, FilterPerforms, Filters}
+use Rattle.filter_cli.specs.declared.request.Asked.{Asked}
+use Rattle.filter_cli.specs.declared.request.Request.{Request}
 use Rattle.filter_cli.specs.declared.patterns.PatternsFault.TheVariants as patterns_fault
 use Rattle.filter_cli.specs.declared.file_loop.FileFault.{FileFault}
 use Rattle.filter_cli.specs.declared.file_loop.FileFault.TheVariants as file_fault
@@ -27,17 +27,17 @@ use Rattle.filter_cli.proofs.Ways.{Ways, by_usage, by_memory, by_bad, by_want, p
 -- what a filter does that reads the file of this name
 pub record FileWays (words : List (List ℕ)) (name : List ℕ) (r s : Reach) (outcome : Result StreamEnd Refusal) : Type 0 where
   pub rest : LeavesRest name r s
-  pub missing : IfSome r.site.told (λ files. files name ≡ None → SaysMissing r.site s.site (code_of outcome))
+  pub missing : IfSome r.site.told (λ files. files name ≡ None → SaysMissing r.site s.site (filter_exit_status outcome))
   pub nothing : HasBadPattern words → s ≡ r
   pub place : ℕ
   pub ways : Ways words (IsAbsent name r.site.told) (file_pipe name 0 r) (file_pipe name place s) outcome
 
-pub data Course (words : List (List ℕ)) (r s : Reach) (outcome : Result StreamEnd Refusal) : Type 0 where
-  by_pipe : file_in words ≡ None → s.site ≡ r.site → Ways words ⊥ r.pipe s.pipe outcome → Course words r s outcome
-  by_name : (name : List ℕ) → file_in words ≡ Some name → FileWays words name r s outcome → Course words r s outcome
+pub data FilterCourse (words : List (List ℕ)) (r s : Reach) (outcome : Result StreamEnd Refusal) : Type 0 where
+  by_pipe : input_file_in words ≡ None → s.site ≡ r.site → Ways words ⊥ r.pipe s.pipe outcome → FilterCourse words r s outcome
+  by_name : (name : List ℕ) → input_file_in words ≡ Some name → FileWays words name r s outcome → FilterCourse words r s outcome
 
 -- what a fault says of a file that is not there
-file_missing : {inside : List ℕ → Bool} (name : List ℕ) (r s : Reach) (sees : List ℕ → List ℕ → Type 0) (ends : List ℕ → List ℕ → ℕ → Type 0) (fault : FileFault) → FeedsFile name inside sees ends r s (Err fault) → IfSome r.site.told (λ files. files name ≡ None → SaysMissing r.site s.site (file_code fault))
+file_missing : {inside : List ℕ → Bool} (name : List ℕ) (r s : Reach) (sees : List ℕ → List ℕ → Type 0) (ends : List ℕ → List ℕ → ℕ → Type 0) (fault : FileFault) → FeedsFile name inside sees ends r s (Err fault) → IfSome r.site.told (λ files. files name ≡ None → SaysMissing r.site s.site (file_exit_status fault))
 file_missing name r s sees ends file_fault.Read step = none_written name r.site.told _ (inr (inl (refl, step.fed.rose)))
 file_missing name r s sees ends file_fault.NoFile step = none_written name r.site.told _ (inl refl)
 file_missing name r s sees ends file_fault.TooLong step = none_there name r.site.told _ step.found
@@ -49,7 +49,7 @@ rest_same name r s same = subst (LeavesRest name r) (sym same) (rest_begun name 
 
 -- what a chain that touched nothing left
 module _ (words : List (List ℕ)) (name : List ℕ) (r s : Reach) (outcome : Result StreamEnd Refusal) where
-  same_ways : s ≡ r → SaysMissing r.site s.site (code_of outcome) → Ways words (IsAbsent name r.site.told) (file_pipe name 0 r) (file_pipe name 0 s) outcome → FileWays words name r s outcome
+  same_ways : s ≡ r → SaysMissing r.site s.site (filter_exit_status outcome) → Ways words (IsAbsent name r.site.told) (file_pipe name 0 r) (file_pipe name 0 s) outcome → FileWays words name r s outcome
   same_ways same says ways = record {
     rest = rest_same name r s same;
     missing = none_written name r.site.told _ says;
@@ -60,9 +60,9 @@ module _ (words : List (List ℕ)) (name : List ℕ) (r s : Reach) (outcome : Re
 
 module _ (words : List (List ℕ)) (r s : Reach) (outcome : Result StreamEnd Refusal) where
   memory_ways : (name : List ℕ) (none : NoMemory) → outcome ≡ Err (Memory none) → (tool_of words ≡ None → ⊥) → s ≡ r → FileWays words name r s outcome
-  memory_ways name none err some same = same_ways words name r s outcome same (inr (inr (ap code_of err))) (by_memory none err some (ap (file_pipe name 0) same))
+  memory_ways name none err some same = same_ways words name r s outcome same (inr (inr (ap filter_exit_status err))) (by_memory none err some (ap (file_pipe name 0) same))
 
-  memory_course : (file : Option (List ℕ)) → file_in words ≡ file → (none : NoMemory) → outcome ≡ Err (Memory none) → (tool_of words ≡ None → ⊥) → s ≡ r → Course words r s outcome
+  memory_course : (file : Option (List ℕ)) → input_file_in words ≡ file → (none : NoMemory) → outcome ≡ Err (Memory none) → (tool_of words ≡ None → ⊥) → s ≡ r → FilterCourse words r s outcome
   memory_course None is none err some same = by_pipe is (ap (λ (x : Reach). x.site) same) (by_memory none err some (ap (λ (x : Reach). x.pipe) same))
   memory_course (Some name) is none err some same = by_name name is (memory_ways name none err some same)
 
@@ -78,7 +78,7 @@ module _ (words : List (List ℕ)) (r s : Reach) (outcome : Result StreamEnd Ref
   fed_ways : (asked : Asked) (name : List ℕ) → AsksFor words asked → text_unread words ≡ None → FeedsNamed name (inside_by (writing_of asked)) (sees_by (writing_of asked)) (ends_by (writing_of asked)) r s outcome → FileWays words name r s outcome
   fed_ways asked name asks reads (stops fault err step) = record {
     rest = step.rest;
-    missing = subst (λ (n : ℕ). IfSome r.site.told (λ files. files name ≡ None → SaysMissing r.site s.site n)) (sym (ap code_of err)) (file_missing name r s _ _ fault step);
+    missing = subst (λ (n : ℕ). IfSome r.site.told (λ files. files name ≡ None → SaysMissing r.site s.site n)) (sym (ap filter_exit_status err)) (file_missing name r s _ _ fault step);
     nothing = λ bad. absurd (asks_no_bad words asked asks bad);
     place = step.place;
     ways = file_ways (file_pipe name 0 r) (file_pipe name step.place s) asked name r.site.told fault refl asks reads err step.found step.fed;
@@ -99,25 +99,25 @@ module _ (words : List (List ℕ)) (r s : Reach) (outcome : Result StreamEnd Ref
   made_ways asked name asks reads some (goes_on value between step next) =
       fed_ways asked name asks reads (subst (λ (x : Reach). FeedsNamed name (inside_by (writing_of asked)) (sees_by (writing_of asked)) (ends_by (writing_of asked)) x s outcome) step.same next)
 
-  file_course : (asked : Asked) (name : List ℕ) → asked_of words ≡ Some asked → text_unread words ≡ None → (tool_of words ≡ None → ⊥) → Takes (Some name) asked r s outcome → FileWays words name r s outcome
+  file_course : (asked : Asked) (name : List ℕ) → asked_by_words words ≡ Some asked → text_unread words ≡ None → (tool_of words ≡ None → ⊥) → FiltersFrom (Some name) asked r s outcome → FileWays words name r s outcome
   file_course asked name named reads some (stops (patterns_fault.Bad text) err step) =
-      same_ways words name r s outcome step.same (inl (ap code_of err)) (by_bad text err (record { asked = asked; named = named; text = text; bad = step.says }) (ap (file_pipe name 0) step.same))
+      same_ways words name r s outcome step.same (inl (ap filter_exit_status err)) (by_bad text err (record { asked = asked; named = named; text = text; bad = step.says }) (ap (file_pipe name 0) step.same))
   file_course asked name named reads some (stops patterns_fault.NoMemory err step) =
-      same_ways words name r s outcome step.same (inr (inr (ap code_of err))) (by_want asked err named (ap (file_pipe name 0) step.same))
+      same_ways words name r s outcome step.same (inr (inr (ap filter_exit_status err))) (by_want asked err named (ap (file_pipe name 0) step.same))
   file_course asked name named reads some (goes_on value between step next) =
       made_ways asked name (record { named = named; good = step.says }) reads some (subst (λ (x : Reach). MakesAndFeeds name (inside_by (writing_of asked)) (sees_by (writing_of asked)) (ends_by (writing_of asked)) x s outcome) step.same next)
 
-  takes_course : (file : Option (List ℕ)) (asked : Asked) → asked_of words ≡ Some asked → file_in words ≡ file → text_unread words ≡ unread_with file asked → Takes file asked r s outcome → Course words r s outcome
+  takes_course : (file : Option (List ℕ)) (asked : Asked) → asked_by_words words ≡ Some asked → input_file_in words ≡ file → text_unread words ≡ unread_with file asked → FiltersFrom file asked r s outcome → FilterCourse words r s outcome
   takes_course None asked named is own step =
       by_pipe is (ap (λ (x : Reach). x.site) step.rest) (checked_ways words ⊥ r.pipe s.pipe outcome asked named own step.at)
   takes_course (Some name) asked named is own step = by_name name is (file_course asked name named own (asks_tool words asked named) step)
 
-  performs_course : (request : Option Request) → request_of words ≡ request → Performs (usage_fault words) request r s outcome → Course words r s outcome
+  performs_course : (request : Option Request) → request_of words ≡ request → FilterPerforms (usage_fault words) request r s outcome → FilterCourse words r s outcome
   performs_course None named done =
       by_pipe (file_none words named) (ap (λ (x : Reach). x.site) done.same) (by_usage done.usage (asked_none words named) (ap (λ (x : Reach). x.pipe) done.same))
   performs_course (Some q) named done = takes_course q.file q.asked (asked_is words q named) (file_is words q named) (unread_is words q named) done
 
-  pub filters_course : Filters words r s outcome → Course words r s outcome
-  filters_course (stops none is step) = memory_course (file_in words) refl none is step.says step.same
+  pub filters_course : Filters words r s outcome → FilterCourse words r s outcome
+  filters_course (stops none is step) = memory_course (input_file_in words) refl none is step.says step.same
   filters_course (goes_on request between step next) =
-      performs_course request (sym step.says) (subst (λ (x : Reach). Performs (usage_fault words) request x s outcome) step.same next)
+      performs_course request (sym step.says) (subst (λ (x : Reach). FilterPerforms (usage_fault words) request x s outcome) step.same next)

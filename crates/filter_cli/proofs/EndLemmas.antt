@@ -2,15 +2,15 @@
 use Rattle.std.proofs.Common.{◌≡◌, ℕ, ◌≤◌, Bool, false, Option, None, Some, Result, Ok, Err, List, refl, sym, ap, subst, ◌∙◌, arith}
 use Rattle.edge_io.specs.Seen.{Seen}
 use Rattle.filter_cli.specs.Pipe.{Pipe}
-use Rattle.filter_cli.specs.Program.{LeavesUnread, TellsInside, TellsLine}
+use Rattle.filter_cli.specs.Program.{LeavesUnread, TellsInside, FilterTellsLine}
 use Rattle.filter_cli.specs.Pumping.{PumpsToEnd}
-use Rattle.filter_cli.specs.Refusals.{refusal_code, code_of}
+use Rattle.filter_cli.specs.Refusals.{filter_refusal_exit_status, filter_exit_status}
 use Rattle.filter_cli.specs.Streams.{writing_of, unread_text, text_unread, inside_by, inside_asked, is_inside_for, ends_by, AsksFor}
-use Rattle.filter_cli.specs.declared.asked.Asked.{Asked}
-use Rattle.filter_cli.specs.declared.asked.Asked.TheVariants.{Filter, Tags, Ls, Stats, FromTap, ToTap, ToCsv, ToJunit, Output, FromV1, ToV1, Tracing}
+use Rattle.filter_cli.specs.declared.request.Asked.{Asked}
+use Rattle.filter_cli.specs.declared.request.Asked.TheVariants.{Filter, Tags, Ls, Stats, FromTap, ToTap, ToCsv, ToJunit, Output, FromV1, ToV1, Tracing}
 use Rattle.filter_cli.specs.declared.file_loop.FileFault.TheVariants as file_fault
 use Rattle.filter_cli.specs.declared.filter.StreamEnd.{StreamEnd}
-use Rattle.filter_cli.specs.declared.pass.PumpFault.TheVariants as pump_fault
+use Rattle.filter_cli.specs.declared.pump_loop.PumpFault.TheVariants as pump_fault
 use Rattle.filter_cli.specs.declared.patterns.PatternsFault.TheVariants as patterns_fault
 use Rattle.filter_cli.specs.declared.refusal.Refusal.{Refusal}
 use Rattle.filter_cli.specs.declared.refusal.Refusal.TheVariants.{Usage, Memory, Patterns, Pump, File}
@@ -48,7 +48,7 @@ gave_inside words asked text a b end bytes asks leaves p =
     ∙ asked_inside words asked bytes asks
 
 -- the status of a refusal is 2 at least
-refusal_least : (refusal : Refusal) → 2 ≤ refusal_code refusal
+refusal_least : (refusal : Refusal) → 2 ≤ filter_refusal_exit_status refusal
 refusal_least (Usage fault) = omega arith
 refusal_least (Memory none) = omega arith
 refusal_least (Patterns (patterns_fault.Bad text)) = omega arith
@@ -64,6 +64,6 @@ refusal_least (File name file_fault.Output) = omega arith
 refusal_least (File name file_fault.NoMemory) = omega arith
 
 -- the line of the end is told where it was done
-pub told_inside : (name : List ℕ) (outcome : Result StreamEnd Refusal) (before after : Seen (List ℕ)) (answer : ℕ) (inside : Bool) → TellsLine name outcome before after → answer ≡ code_of outcome → answer ≤ 1 → ((end : StreamEnd) → outcome ≡ Ok end → end.inside ≡ inside) → TellsInside name inside before after
+pub told_inside : (name : List ℕ) (outcome : Result StreamEnd Refusal) (before after : Seen (List ℕ)) (answer : ℕ) (inside : Bool) → FilterTellsLine name outcome before after → answer ≡ filter_exit_status outcome → answer ≤ 1 → ((end : StreamEnd) → outcome ≡ Ok end → end.inside ≡ inside) → TellsInside name inside before after
 told_inside name (Ok end) before after answer inside told code le is = subst (λ (b : Bool). TellsInside name b before after) (is end refl) told
 told_inside name (Err refusal) before after answer inside told code le is = absurd (omega (arith, le, code, refusal_least refusal))

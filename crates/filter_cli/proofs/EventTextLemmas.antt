@@ -1,7 +1,7 @@
 -- The texts of whole streams as packets.
 use Rattle.std.proofs.Common.{◌≡◌, ℕ, Bool, true, false, List, [], ◌∷◌, ◌++◌, map, if◌then◌else◌, refl, sym, ap, ◌∙◌, append-nil}
 use Rattle.std.proofs.lemmas.Grind.{flat_map-append}
-use Rattle.packet_codec.specs.Canonical.{canonical}
+use Rattle.packet_codec.specs.Canonical.{canonical, packets_of}
 use Rattle.packet_codec.specs.declared.event.Event.{Event}
 use Rattle.stream_reader.specs.declared.note.Note.{Note}
 use Rattle.stream_reader.specs.declared.note.Note.TheVariants as note
@@ -12,7 +12,7 @@ use Rattle.event_sift.specs.Keeping.{keeps}
 use Rattle.event_sift.specs.Released.{released, released_behind, released_by, released_at_end, filtered}
 use Rattle.event_sift.specs.Tagging.{tagged}
 use Rattle.filter_cli.specs.Script.{given_behind, given_by}
-use Rattle.filter_cli.specs.Events.{is_hidden, events_heard, packets_of}
+use Rattle.filter_cli.specs.Events.{is_hidden_output, events_heard}
 use Rattle.filter_cli.specs.Filtering.{filter_plan, let_through}
 use Rattle.filter_cli.specs.Tagging.{tags_plan}
 use Rattle.filter_cli.proofs.LooseLemmas.{heard_more, hidden_more, foreign_unheard, let_go_by, let_through_at}
@@ -22,7 +22,7 @@ abbrev rest_of : Rules → List Event → List Event → List ℕ
 rest_of rules seen more = packets_of (released_behind (keeps rules) seen more)
 
 -- what one event and the notes behind it give, whether it is hidden or not
-event_behind : (rules : Rules) (before notes : List Note) (e : Event) (given : List ℕ) → given ≡ rest_of rules (events_heard true (before ++ note.Event e ∷ [])) (events_heard true notes) → (b : Bool) → is_hidden true e ≡ b → let_through rules true (events_heard true before) (note.Event e) ++ given ≡ rest_of rules (events_heard true before) ((if b then [] else e ∷ []) ++ events_heard true notes)
+event_behind : (rules : Rules) (before notes : List Note) (e : Event) (given : List ℕ) → given ≡ rest_of rules (events_heard true (before ++ note.Event e ∷ [])) (events_heard true notes) → (b : Bool) → is_hidden_output true e ≡ b → let_through rules true (events_heard true before) (note.Event e) ++ given ≡ rest_of rules (events_heard true before) ((if b then [] else e ∷ []) ++ events_heard true notes)
 event_behind rules before notes e given is true hides =
     ap (λ (l : List ℕ). l ++ given) (let_go_by rules true (events_heard true before) e hides)
     ∙ is
@@ -39,7 +39,7 @@ let_through_behind rules before (note.Foreign bytes ∷ notes) =
     let_through_behind rules (before ++ note.Foreign bytes ∷ []) notes
     ∙ ap (λ (seen : List Event). rest_of rules seen (events_heard true notes)) (foreign_unheard true before bytes)
 let_through_behind rules before (note.Event e ∷ notes) =
-    event_behind rules before notes e _ (let_through_behind rules (before ++ note.Event e ∷ []) notes) (is_hidden true e) refl
+    event_behind rules before notes e _ (let_through_behind rules (before ++ note.Event e ∷ []) notes) (is_hidden_output true e) refl
 
 pub let_through_whole : (rules : Rules) (notes : List Note) → given_by (filter_plan rules true) notes ++ (filter_plan rules true).at_end notes ≡ packets_of (filtered (keeps rules) (events_heard true notes))
 let_through_whole rules notes =

@@ -17,7 +17,7 @@ use Rattle.event_sift.specs.Keeping.{keeps}
 use Rattle.filter_cli.specs.Script.{given_behind, given_by}
 use Rattle.filter_cli.specs.Exporting.{csv_plan, IsCsvFiltered}
 use Rattle.filter_cli.proofs.EventLemmas.{event_more, foreign_more}
-use Rattle.filter_cli.specs.Events.{events_in}
+use Rattle.filter_cli.specs.Events.{events_among}
 
 no_id : (id route word : Option (List ℕ)) (start stop : Option ℕ) → ◌≡◌ {A = Option TestKey} None (option_map (λ id. record { route = route; id = id }) id) → row_if (record_with id word start stop) ≡ []
 no_id None route word start stop none = refl
@@ -46,23 +46,23 @@ row_taken kept seen e event old new part lent is same gives one =
 
 -- ---- whole streams
 
-records_behind : (kept : Row → Bool) (before notes : List Note) → given_behind (csv_plan kept) before notes ≡ flat_map csv_row_of (kept_parts_behind kept (events_in before) (events_in notes))
+records_behind : (kept : Row → Bool) (before notes : List Note) → given_behind (csv_plan kept) before notes ≡ flat_map csv_row_of (kept_parts_behind kept (events_among before) (events_among notes))
 records_behind kept before [] = refl
 records_behind kept before (note.Foreign bytes ∷ notes) =
     records_behind kept (before ++ note.Foreign bytes ∷ []) notes
-    ∙ ap (λ (seen : List Event). flat_map csv_row_of (kept_parts_behind kept seen (events_in notes))) (foreign_more before bytes)
+    ∙ ap (λ (seen : List Event). flat_map csv_row_of (kept_parts_behind kept seen (events_among notes))) (foreign_more before bytes)
 records_behind kept before (note.Event e ∷ notes) =
-    let now = kept_part_at kept (events_in before) e in
+    let now = kept_part_at kept (events_among before) e in
     ap (λ (l : List ℕ). flat_map csv_row_of now ++ l) (records_behind kept (before ++ note.Event e ∷ []) notes
-    ∙ ap (λ (seen : List Event). flat_map csv_row_of (kept_parts_behind kept seen (events_in notes))) (event_more before e))
-    ∙ sym (flat_map-append csv_row_of now (kept_parts_behind kept (events_in before ++ e ∷ []) (events_in notes)))
+    ∙ ap (λ (seen : List Event). flat_map csv_row_of (kept_parts_behind kept seen (events_among notes))) (event_more before e))
+    ∙ sym (flat_map-append csv_row_of now (kept_parts_behind kept (events_among before ++ e ∷ []) (events_among notes)))
 
-pub records_whole : (kept : Row → Bool) (notes : List Note) → csv_head_text ++ (given_by (csv_plan kept) notes ++ (csv_plan kept).at_end notes) ≡ csv_text kept (events_in notes)
+pub records_whole : (kept : Row → Bool) (notes : List Note) → csv_head_text ++ (given_by (csv_plan kept) notes ++ (csv_plan kept).at_end notes) ≡ csv_text kept (events_among notes)
 records_whole kept notes =
-    let last = kept_open_parts kept (events_in notes) in
+    let last = kept_open_parts kept (events_among notes) in
     ap (λ (l : List ℕ). csv_head_text ++ l) (ap (λ (l : List ℕ). l ++ flat_map csv_row_of last) (records_behind kept [] notes)
-    ∙ sym (flat_map-append csv_row_of (kept_parts_so_far kept (events_in notes)) last))
+    ∙ sym (flat_map-append csv_row_of (kept_parts_so_far kept (events_among notes)) last))
 
-pub stream_records : (rules : Rules) (bytes text : List ℕ) (status : ℕ) (w : IsCsvFiltered rules bytes text status) → text ≡ csv_text (keeps rules) (events_in w.holds.notes)
+pub stream_records : (rules : Rules) (bytes text : List ℕ) (status : ℕ) (w : IsCsvFiltered rules bytes text status) → text ≡ csv_text (keeps rules) (events_among w.holds.notes)
 stream_records rules bytes text status w =
     w.grown ∙ ap (λ (l : List ℕ). csv_head_text ++ l) w.holds.made ∙ records_whole (keeps rules) w.holds.notes

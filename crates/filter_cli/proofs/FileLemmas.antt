@@ -9,10 +9,11 @@ use Rattle.edge_io.specs.Sites.{Finds}
 use Rattle.edge_io.specs.declared.site.Found.{Found}
 use Rattle.edge_io.specs.declared.site.Found.TheVariants.{Read, Absent}
 use Rattle.edge_io.specs.Seen.{Seen}
-use Rattle.filter_cli.specs.FileReads.{left_of_file, file_input, ReadsOn, IsAbsent, IsThere, SaysWhether, FiltersFile, LeavesRest, HasReadCause}
+use Rattle.edge_io.specs.Limits.{most_bytes}
+use Rattle.filter_cli.specs.FileReads.{left_of_file, file_input, ReadsFileOn, IsAbsent, IsThere, SaysWhether, FiltersFile, LeavesRest, HasReadCause}
 use Rattle.filter_cli.specs.Outside.{Reach}
 use Rattle.filter_cli.specs.Pipe.{Pipe, pipe}
-use Rattle.filter_cli.specs.Pumping.{StopsBefore, most_bytes}
+use Rattle.filter_cli.specs.Pumping.{StopsBefore}
 use Rattle.filter_cli.specs.declared.filter.StreamEnd.{StreamEnd}
 use Rattle.filter_cli.specs.declared.file_loop.FileFault.{FileFault}
 use Rattle.filter_cli.specs.declared.file_loop.FileFault.TheVariants as file_fault
@@ -37,13 +38,13 @@ there_on : (file : Option (List ℕ)) (place count : ℕ) (buf : List ℕ) → F
 there_on None place count buf found none = found
 there_on (Some bytes) place count buf found none = cc
 
-read_of : (name : List ℕ) (told : Option Files) (place count : ℕ) (buf : List ℕ) → IfSome told (λ files. Finds (files name) place buf (Read count)) → ReadsOn name place told told buf count
+read_of : (name : List ℕ) (told : Option Files) (place count : ℕ) (buf : List ℕ) → IfSome told (λ files. Finds (files name) place buf (Read count)) → ReadsFileOn name place told told buf count
 read_of name None place count buf found = record { took = tt; ends = λ none some. tt; there = tt }
 read_of name (Some files) place count buf found = record { took = took_on (files name) place count buf found; ends = ends_on (files name) place count buf found; there = there_on (files name) place count buf found }
 
-pub reads_on : (name : List ℕ) (told now : Option Files) (place count : ℕ) (buf : List ℕ) (found : Found) → now ≡ told → found ≡ Read count → IfSome told (λ files. Finds (files name) place buf found) → ReadsOn name place told now buf count
+pub reads_on : (name : List ℕ) (told now : Option Files) (place count : ℕ) (buf : List ℕ) (found : Found) → now ≡ told → found ≡ Read count → IfSome told (λ files. Finds (files name) place buf found) → ReadsFileOn name place told now buf count
 reads_on name told now place count buf found same is finds =
-    subst (λ (o : Option Files). ReadsOn name place told o buf count) (sym same)
+    subst (λ (o : Option Files). ReadsFileOn name place told o buf count) (sym same)
     (read_of name told place count buf (subst (λ (f : Found). IfSome told (λ files. Finds (files name) place buf f)) is finds))
 
 pub absent_of : (name : List ℕ) (told : Option Files) (place : ℕ) (buf : List ℕ) (found : Found) → found ≡ Absent → IfSome told (λ files. Finds (files name) place buf found) → IsAbsent name told

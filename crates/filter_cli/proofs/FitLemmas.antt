@@ -6,8 +6,8 @@ use Rattle.packet_codec.specs.Canonical.{canonical_text, canonical_fields, packe
 use Rattle.packet_codec.proofs.ShortestLemmas.{length_shortest_number, shortest_size_range}
 use Rattle.packet_codec.proofs.WritingLemmas.{length_canonical_fields}
 use Rattle.sub_number.specs.Numbers.{shortest_number}
-use Rattle.stream_reader.specs.declared.first.First.{First}
-use Rattle.stream_reader.specs.declared.first.First.TheVariants.{Foreign}
+use Rattle.stream_reader.specs.declared.first_note.First.{First}
+use Rattle.stream_reader.specs.declared.first_note.First.TheVariants.{Foreign}
 use Rattle.stream_reader.specs.First.{FirstIs}
 use Rattle.stream_reader.specs.Notes.{stdout_event}
 

@@ -23,7 +23,7 @@ use Rattle.std.proofs.lemmas.List.Folds.{list_any-append}
 use Rattle.std.proofs.lemmas.List.Sums.{sum_by-append, sum_by-cons}
 use Rattle.outcome_fold.specs.declared.row.Row.{Row}
 use Rattle.outcome_fold.specs.declared.row.Counts.{Counts}
-use Rattle.outcome_fold.specs.Answers.{row_fails, passes, is_skipped, is_counted, total_time, counted_rows, counts_in, counts_of}
+use Rattle.outcome_fold.specs.Answers.{row_fails, row_passes, is_skipped, is_counted, total_time, counted_rows, counts_in, counts_of}
 use Rattle.outcome_fold.specs.Order.{route_cmp, table}
 use Rattle.outcome_fold.specs.Rows.{is_under, by_route}
 use Rattle.outcome_fold.specs.Grouped.{group_table}
@@ -191,7 +191,7 @@ count_joined p rows more = sum_by-append (λ x. cond (p x) 1 0) rows more
 all_counted : (rows more : List Row) → counts_in (rows ++ more) ≡ joined_counts (counts_in rows) (counts_in more)
 all_counted rows more =
     let total : length (rows ++ more) ≡ length rows + length more = length-append rows more in
-    let passed = count_joined passes rows more in
+    let passed = count_joined row_passes rows more in
     let failed = count_joined row_fails rows more in
     let skipped = count_joined is_skipped rows more in
     let nanos = times_joined rows more in

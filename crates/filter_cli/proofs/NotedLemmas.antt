@@ -7,8 +7,8 @@ use Rattle.packet_codec.specs.Packet.{SpellsEvent}
 use Rattle.packet_codec.specs.declared.event.Event.{Event}
 use Rattle.stream_reader.specs.declared.note.Note.{Note}
 use Rattle.stream_reader.specs.declared.note.Note.TheVariants as note
-use Rattle.stream_reader.specs.declared.first.First.{First}
-use Rattle.stream_reader.specs.declared.first.First.TheVariants as found
+use Rattle.stream_reader.specs.declared.first_note.First.{First}
+use Rattle.stream_reader.specs.declared.first_note.First.TheVariants as found
 use Rattle.stream_reader.specs.First.{FirstIs, IsMadeBy}
 use Rattle.stream_reader.specs.Stream.{Held, HasGiven, GivesNote, IsSpent}
 use Rattle.stream_reader.proofs.TurnLemmas.{notes_none, notes_more, begin_more, whole_at_end, gives_none}
@@ -19,7 +19,7 @@ use Rattle.stream_end.proofs.InsideLemmas.{given_alike}
 use Rattle.filter_cli.specs.Pipe.{Adds}
 use Rattle.filter_cli.specs.Plan.{Plan, IsSeen, IsFiltered}
 use Rattle.filter_cli.specs.Script.{given_by}
-use Rattle.filter_cli.specs.Noted.{EndsAsHeld, HasFiltered, TakesFirst, TakesNext, TakesNotes}
+use Rattle.filter_cli.specs.Noted.{EndsAsHeld, HasFiltered, TakesFirstNote, TakesNext, TakesNotes}
 use Rattle.filter_cli.specs.ScriptLaws.{given_more}
 
 -- ---- how the bytes fed and those held end
@@ -143,7 +143,7 @@ pub takes_packet : (takes later : List Note → Type 0) (plan : Plan) (bytes pac
     → first ≡ found.Packet size → BeginsWithPacket bytes size → packet ≡ take size bytes
     → ((event : Event) → SpellsEvent packet event → (notes : List Note) → takes notes → later (notes ++ note.Event event ∷ []))
     → ((event : Event) → SpellsEvent packet event → (notes : List Note) → takes notes → new ≡ old ++ plan.gives notes (note.Event event))
-    → TakesFirst takes later plan bytes first old new
+    → TakesFirstNote takes later plan bytes first old new
 takes_packet takes later plan bytes packet first size old new form begins same goes_on writes =
     let event = begins.packet.0 in
     let spells : SpellsEvent packet event = subst (λ (l : List ℕ). SpellsEvent l event) (sym same) begins.packet.1 in
@@ -156,7 +156,7 @@ takes_packet takes later plan bytes packet first size old new form begins same g
 
 -- what is first was given and taken
 pub takes_next : (takes later : List Note → Type 0) (plan : Plan) (before after : Held) (first : First) (old new : List ℕ)
-    → TakesFirst takes later plan before.bytes first old new → ((note : Note) → IsMadeBy before.bytes first note → GivesNote before note after)
+    → TakesFirstNote takes later plan before.bytes first old new → ((note : Note) → IsMadeBy before.bytes first note → GivesNote before note after)
     → TakesNext takes later plan before after old new
 takes_next takes later plan before after first old new t gives = record { note = t.note; given = gives t.note t.made; taken = t.taken; grown = t.grown }
 

@@ -9,8 +9,8 @@ use Rattle.edge_io.specs.Bytes.{AppendsPrefix}
 use Rattle.filter_cli.specs.Pipe.{Pipe}
 use Rattle.filter_cli.specs.Pumping.{StopsBefore, WriteFails, IsDue, Pumps}
 use Rattle.filter_cli.specs.declared.filter.StreamEnd.{StreamEnd}
-use Rattle.filter_cli.specs.declared.pass.PumpFault.{PumpFault}
-use Rattle.filter_cli.specs.declared.pass.PumpFault.TheVariants.{Input, TooLong, Output, NoMemory}
+use Rattle.filter_cli.specs.declared.pump_loop.PumpFault.{PumpFault}
+use Rattle.filter_cli.specs.declared.pump_loop.PumpFault.TheVariants.{Input, TooLong, Output, NoMemory}
 use Rattle.filter_cli.proofs.PipeLemmas.{told_front, told_all, prefix_by}
 
 -- what first bytes decide comes first

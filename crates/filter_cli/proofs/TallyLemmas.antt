@@ -13,7 +13,7 @@ use Rattle.outcome_fold.specs.declared.row.Row.{Row}
 use Rattle.outcome_fold.specs.declared.row.Counts.{Counts}
 use Rattle.outcome_fold.specs.Order.{text_cmp, in_byte_order, among}
 use Rattle.outcome_fold.specs.Rows.{is_failure, is_skip, completed_rows, open_rows, rows_of}
-use Rattle.outcome_fold.specs.Answers.{is_existing, is_run, is_counted, passes, row_fails, is_skipped, seen_tags_of, counts_of}
+use Rattle.outcome_fold.specs.Answers.{is_existing, is_run, is_counted, row_passes, row_fails, is_skipped, seen_tags_of, counts_of}
 use Rattle.outcome_fold.proofs.TotalLemmas.{total, total_is, total_append}
 use Rattle.outcome_fold.proofs.LawLemmas.{as_many}
 use Rattle.outcome_fold.proofs.SetLemmas.{same_order, order_append}
@@ -136,7 +136,7 @@ lines_same a b total passed failed skipped = rw (total, passed, failed, skipped)
 pub lines_are : (es : List Event) (all : List Ended) (counts : Counts) → all ≡ map (λ row. row.ended) (completed_rows es ++ open_rows es) → AreCounts counts all → counts_lines counts ≡ counts_lines (counts_of [] (rows_of es))
 lines_are es all counts is are = lines_same counts (counts_of [] (rows_of es))
     (number_is kind.Run es all counts.total is are.total ∙ sym (all_counted (rows_of es)))
-    (number_is kind.Passed es all counts.passed is are.passed ∙ sym (among_counted passes (λ row. is_of kind.Passed row.ended) (λ row. pass_is row.ended) (rows_of es)))
+    (number_is kind.Passed es all counts.passed is are.passed ∙ sym (among_counted row_passes (λ row. is_of kind.Passed row.ended) (λ row. pass_is row.ended) (rows_of es)))
     (number_is kind.Failed es all counts.failed is are.failed ∙ sym (among_counted row_fails (λ row. is_of kind.Failed row.ended) (λ row. fail_is row.ended) (rows_of es)))
     (number_is kind.Skipped es all counts.skipped is are.skipped ∙ sym (among_counted is_skipped (λ row. is_of kind.Skipped row.ended) (λ row. skip_is row.ended) (rows_of es)))
 

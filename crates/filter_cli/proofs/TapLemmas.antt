@@ -5,28 +5,29 @@ use Rattle.std.proofs.lemmas.List.{map-append, take-append-drop}
 use Rattle.std.proofs.lemmas.List.Concat.{flat_map-append}
 use Rattle.std.proofs.lemmas.List.Folds.{concat-append}
 use Rattle.packet_codec.specs.declared.event.Event.{Event}
-use Rattle.packet_codec.specs.Canonical.{canonical, Fits}
+use Rattle.packet_codec.specs.Canonical.{canonical, Fits, packets_of}
 use Rattle.stream_reader.specs.Notes.{stdout_event}
 use Rattle.tap_bridge.specs.declared.reader.TapReader.{TapReader}
-use Rattle.tap_bridge.specs.Events.{longest_line, pieces_of, input_of, events_at, events_so_far, tap_events}
-use Rattle.tap_bridge.specs.Kept.{HasRead}
+use Rattle.tap_bridge.specs.Events.{longest_tap_line, pieces_of, input_of, events_at, tap_events_so_far, tap_events}
+use Rattle.tap_bridge.specs.Kept.{HasReadLines}
 use Rattle.tap_bridge.proofs.SizeLemmas.{stdout_fits}
 use Rattle.tap_bridge.proofs.LongLines.{one_piece, too_long_is_read, too_long_gives}
 use Rattle.tap_bridge.proofs.ReadLemmas.{so_far_push}
+use Rattle.v1_bridge.specs.Lines.{HasNoNewline}
+use Rattle.sub_number.specs.Lines.{with_newline}
 use Rattle.filter_cli.specs.Pipe.{Adds}
-use Rattle.filter_cli.specs.Lines.{IsPlain, ArePlain, ended, IsSplit, last_line}
+use Rattle.filter_cli.specs.Lines.{HaveNoNewline, IsSplit, last_line}
 use Rattle.filter_cli.specs.Tap.{IsTapFiltered}
-use Rattle.filter_cli.specs.Events.{packets_of}
-use Rattle.filter_cli.specs.TapLaws.{behind_pieces, packets_then}
+use Rattle.filter_cli.specs.TapLaws.{full_pieces_first, packets_then}
 use Rattle.filter_cli.specs.Tapped.{AreFull, most_open, GivesPieces, IsLonger, IsAdded, HasTapped, HasTaken}
 
 -- Lists.
 
-pub plain_then : (bytes more : List ℕ) → IsPlain bytes → IsPlain more → IsPlain (bytes ++ more)
+pub plain_then : (bytes more : List ℕ) → HasNoNewline bytes → HasNoNewline more → HasNoNewline (bytes ++ more)
 plain_then [] more p q = q
 plain_then (byte ∷ bytes) more p q = (p.0, plain_then bytes more p.1 q)
 
-pub lines_more : (lines : List (List ℕ)) (line : List ℕ) → ArePlain lines → IsPlain line → ArePlain (lines ++ line ∷ [])
+pub lines_more : (lines : List (List ℕ)) (line : List ℕ) → HaveNoNewline lines → HasNoNewline line → HaveNoNewline (lines ++ line ∷ [])
 lines_more [] line p q = (q, tt)
 lines_more (first ∷ lines) line p q = (p.0, lines_more lines line p.1 q)
 
@@ -51,7 +52,7 @@ adds_none takes fed shown old is = record { more = []; grown = sym (append-nil o
 
 -- Bytes of a line.
 
-pub tapped_none : (reader : TapReader) (held : List ℕ) (long : Bool) → held ≡ [] → long ≡ false → HasRead reader [] → HasTapped reader held long [] []
+pub tapped_none : (reader : TapReader) (held : List ℕ) (long : Bool) → held ≡ [] → long ≡ false → HasReadLines reader [] → HasTapped reader held long [] []
 tapped_none reader held long none new read = subst (λ (l : List ℕ). HasTapped reader l long [] []) (sym none) (subst (λ (b : Bool). HasTapped reader [] b [] []) (sym new) (record {
   lines = [];
   rest = [];
@@ -72,10 +73,10 @@ kind_more false true rest held bytes pieces more is kind grows =
     omega (arith, grows, ap length is, length-append (concat pieces) held, length-append held bytes, length-append rest bytes)
 kind_more true true rest held bytes pieces more is kind grows = omega (arith, kind, length-append rest bytes)
 
-pub tapped_more : (reader : TapReader) (held : List ℕ) (long : Bool) (fed shown bytes later : List ℕ) (longer : Bool) (old new : List ℕ) → IsPlain bytes → HasTapped reader held long fed shown → IsAdded held long bytes later longer old new
+pub tapped_more : (reader : TapReader) (held : List ℕ) (long : Bool) (fed shown bytes later : List ℕ) (longer : Bool) (old new : List ℕ) → HasNoNewline bytes → HasTapped reader held long fed shown → IsAdded held long bytes later longer old new
     → Adds old new (λ more. HasTapped reader later longer (fed ++ bytes) (shown ++ more))
 tapped_more reader held long fed shown bytes later longer old new plain h a =
-    let so_far = events_so_far h.lines in
+    let so_far = tap_events_so_far h.lines in
     let before = map stdout_event h.pieces in
     let behind = map stdout_event a.pieces in
     record {
@@ -86,7 +87,7 @@ tapped_more reader held long fed shown bytes later longer old new plain h a =
         rest = h.rest ++ bytes;
         taken = h.taken;
         split = record {
-          joined = ap (λ (l : List ℕ). l ++ bytes) h.split.joined ∙ append_assoc (flat_map ended h.lines) h.rest bytes;
+          joined = ap (λ (l : List ℕ). l ++ bytes) h.split.joined ∙ append_assoc (flat_map with_newline h.lines) h.rest bytes;
           plain = h.split.plain;
           open_line = plain_then h.rest bytes h.split.open_line plain;
         };
@@ -112,43 +113,43 @@ held_is reader held false fed shown new h = (h.kind, h.joined ∙ ap (λ (l : Li
 pub taken_of : (reader : TapReader) (held : List ℕ) (long : Bool) (fed shown : List ℕ) → long ≡ false → (h : HasTapped reader held long fed shown) → HasTaken reader h.lines shown
 taken_of reader held long fed shown new h =
     let none = (held_is reader held long fed shown new h).0 in
-    record { taken = h.taken; made = h.made ∙ ap (λ (l : List (List ℕ)). packets_of (events_so_far h.lines ++ map stdout_event l)) none ∙ ap packets_of (append-nil (events_so_far h.lines)) }
+    record { taken = h.taken; made = h.made ∙ ap (λ (l : List (List ℕ)). packets_of (tap_events_so_far h.lines ++ map stdout_event l)) none ∙ ap packets_of (append-nil (tap_events_so_far h.lines)) }
 
 -- a line that the reader took
 pub taken_line : (lines : List (List ℕ)) (line shown old new : List ℕ) (before after : TapReader) (events : List Event) → HasTaken before lines shown
-    → HasRead after (lines ++ line ∷ []) → events_so_far (lines ++ line ∷ []) ≡ events_so_far lines ++ events → new ≡ old ++ packets_of events
+    → HasReadLines after (lines ++ line ∷ []) → tap_events_so_far (lines ++ line ∷ []) ≡ tap_events_so_far lines ++ events → new ≡ old ++ packets_of events
     → Adds old new (λ more. HasTaken after (lines ++ line ∷ []) (shown ++ more))
 taken_line lines line shown old new before after events h read gives grown = record {
   more = packets_of events;
   grown = grown;
-  holds = record { taken = read; made = ap (λ (l : List ℕ). l ++ packets_of events) h.made ∙ sym (packets_then (events_so_far lines) events) ∙ ap packets_of (sym gives) };
+  holds = record { taken = read; made = ap (λ (l : List ℕ). l ++ packets_of events) h.made ∙ sym (packets_then (tap_events_so_far lines) events) ∙ ap packets_of (sym gives) };
 }
 
 -- a line that the reader took, which gave nothing
-pub taken_comment : (lines : List (List ℕ)) (line shown old : List ℕ) (before after : TapReader) → HasTaken before lines shown → HasRead after (lines ++ line ∷ [])
-    → events_so_far (lines ++ line ∷ []) ≡ events_so_far lines → Adds old old (λ more. HasTaken after (lines ++ line ∷ []) (shown ++ more))
+pub taken_comment : (lines : List (List ℕ)) (line shown old : List ℕ) (before after : TapReader) → HasTaken before lines shown → HasReadLines after (lines ++ line ∷ [])
+    → tap_events_so_far (lines ++ line ∷ []) ≡ tap_events_so_far lines → Adds old old (λ more. HasTaken after (lines ++ line ∷ []) (shown ++ more))
 taken_comment lines line shown old before after h read gives =
-    taken_line lines line shown old old before after [] h read (gives ∙ sym (append-nil (events_so_far lines))) (sym (append-nil old))
+    taken_line lines line shown old old before after [] h read (gives ∙ sym (append-nil (tap_events_so_far lines))) (sym (append-nil old))
 
 -- a line that the reader took, whose events were put into an empty list
-pub taken_events : (lines : List (List ℕ)) (line shown old new : List ℕ) (before after : TapReader) (cleared events : List Event) → HasTaken before lines shown → HasRead after (lines ++ line ∷ [])
+pub taken_events : (lines : List (List ℕ)) (line shown old new : List ℕ) (before after : TapReader) (cleared events : List Event) → HasTaken before lines shown → HasReadLines after (lines ++ line ∷ [])
     → cleared ≡ [] → events ≡ cleared ++ events_at (map input_of lines) (input_of line) → new ≡ old ++ packets_of events → Adds old new (λ more. HasTaken after (lines ++ line ∷ []) (shown ++ more))
 taken_events lines line shown old new before after cleared events h read none is grown =
     let gives = events_at (map input_of lines) (input_of line) in
     taken_line lines line shown old new before after events h read
-    (so_far_push lines line ∙ ap (λ (l : List Event). events_so_far lines ++ l) (sym (is ∙ ap (λ (l : List Event). l ++ gives) none))) grown
+    (so_far_push lines line ∙ ap (λ (l : List Event). tap_events_so_far lines ++ l) (sym (is ∙ ap (λ (l : List Event). l ++ gives) none))) grown
 
 -- a line that was too long, of which this is left
 pub taken_long : (reader : TapReader) (held : List ℕ) (long : Bool) (fed shown old new : List ℕ) → long ≡ true → new ≡ old ++ packets_of (map stdout_event (last_line held)) → (h : HasTapped reader held long fed shown)
     → Adds old new (λ more. HasTaken reader (h.lines ++ h.rest ∷ []) (shown ++ more))
 taken_long reader held false fed shown old new is grown h = absurd cc
 taken_long reader held true fed shown old new is grown h =
-    let so_far = events_so_far h.lines in
+    let so_far = tap_events_so_far h.lines in
     let before = map stdout_event h.pieces in
     let behind = map stdout_event (last_line held) in
     let pieces : pieces_of h.rest ≡ h.pieces ++ last_line held =
-    ap pieces_of h.joined ∙ behind_pieces h.pieces held h.full ∙ ap (λ (l : List (List ℕ)). h.pieces ++ l) (last_piece held (omega (arith, h.short))) in
-    let gives : events_so_far (h.lines ++ h.rest ∷ []) ≡ (so_far ++ before) ++ behind =
+    ap pieces_of h.joined ∙ full_pieces_first h.pieces held h.full ∙ ap (λ (l : List (List ℕ)). h.pieces ++ l) (last_piece held (omega (arith, h.short))) in
+    let gives : tap_events_so_far (h.lines ++ h.rest ∷ []) ≡ (so_far ++ before) ++ behind =
     too_long_gives h.lines h.rest h.kind ∙ ap (λ (l : List (List ℕ)). so_far ++ map stdout_event l) pieces
     ∙ ap (λ (l : List Event). so_far ++ l) (map-append stdout_event h.pieces (last_line held)) ∙ sym (append_assoc so_far before behind) in
     record {
@@ -160,7 +161,7 @@ taken_long reader held true fed shown old new is grown h =
       };
     }
   where
-    last_piece : (left : List ℕ) → length left ≤ longest_line → pieces_of left ≡ last_line left
+    last_piece : (left : List ℕ) → length left ≤ longest_tap_line → pieces_of left ≡ last_line left
     last_piece [] few = refl
     last_piece (byte ∷ left) few = one_piece (byte ∷ left) (omega arith) few
 
@@ -174,13 +175,13 @@ taken_held reader after held long fed shown line old new whole is h takes =
 
 ended_line : (reader : TapReader) (lines : List (List ℕ)) (line fed shown : List ℕ) → IsSplit fed lines line → HasTaken reader (lines ++ line ∷ []) shown → HasTapped reader [] false (fed ++ 10 ∷ []) shown
 ended_line reader lines line fed shown s t =
-    let all : flat_map ended (lines ++ line ∷ []) ≡ flat_map ended lines ++ ended line = flat_map-append ended lines (line ∷ []) ∙ ap (λ (l : List ℕ). flat_map ended lines ++ l) (append-nil (ended line)) in
+    let all : flat_map with_newline (lines ++ line ∷ []) ≡ flat_map with_newline lines ++ with_newline line = flat_map-append with_newline lines (line ∷ []) ∙ ap (λ (l : List ℕ). flat_map with_newline lines ++ l) (append-nil (with_newline line)) in
     record {
       lines = lines ++ line ∷ [];
       rest = [];
       taken = t.taken;
       split = record {
-        joined = ap (λ (l : List ℕ). l ++ 10 ∷ []) s.joined ∙ append_assoc (flat_map ended lines) line (10 ∷ []) ∙ sym all ∙ sym (append-nil (flat_map ended (lines ++ line ∷ [])));
+        joined = ap (λ (l : List ℕ). l ++ 10 ∷ []) s.joined ∙ append_assoc (flat_map with_newline lines) line (10 ∷ []) ∙ sym all ∙ sym (append-nil (flat_map with_newline (lines ++ line ∷ [])));
         plain = lines_more lines line s.plain s.open_line;
         open_line = tt;
       };
@@ -189,7 +190,7 @@ ended_line reader lines line fed shown s t =
       full = tt;
       short = omega arith;
       kind = refl;
-      made = t.made ∙ ap packets_of (sym (append-nil (events_so_far (lines ++ line ∷ []))));
+      made = t.made ∙ ap packets_of (sym (append-nil (tap_events_so_far (lines ++ line ∷ []))));
     }
 
 -- the line of a reader at work, once its newline is there
@@ -198,7 +199,7 @@ pub tapped_line : (reader after : TapReader) (held : List ℕ) (long : Bool) (fe
 tapped_line reader after held long fed shown old new h a = record { more = a.more; grown = a.grown; holds = ended_line after h.lines h.rest fed (shown ++ a.more) h.split a.holds }
 
 -- the end of a line of which bytes were read before
-pub line_more : (reader after : TapReader) (held : List ℕ) (long : Bool) (fed shown end later : List ℕ) (longer : Bool) (old mid new : List ℕ) → IsPlain end → HasTapped reader held long fed shown → IsAdded held long end later longer old mid
+pub line_more : (reader after : TapReader) (held : List ℕ) (long : Bool) (fed shown end later : List ℕ) (longer : Bool) (old mid new : List ℕ) → HasNoNewline end → HasTapped reader held long fed shown → IsAdded held long end later longer old mid
     → ((f s : List ℕ) → (h : HasTapped reader later longer f s) → Adds mid new (λ more. HasTaken after (h.lines ++ h.rest ∷ []) (s ++ more)))
     → Adds old new (λ more. HasTapped after [] false (fed ++ (end ++ 10 ∷ [])) (shown ++ more))
 line_more reader after held long fed shown end later longer old mid new plain h added ends =
@@ -207,13 +208,13 @@ line_more reader after held long fed shown end later longer old mid new plain h 
     (λ f s k. tapped_line reader after later longer f s mid new k (ends f s k)))
 
 -- a line of which nothing was read before
-pub line_new : (reader after : TapReader) (held : List ℕ) (long : Bool) (fed shown line old new : List ℕ) → held ≡ [] → long ≡ false → IsPlain line → HasTapped reader held long fed shown
+pub line_new : (reader after : TapReader) (held : List ℕ) (long : Bool) (fed shown line old new : List ℕ) → held ≡ [] → long ≡ false → HasNoNewline line → HasTapped reader held long fed shown
     → ((lines : List (List ℕ)) (text : List ℕ) → HasTaken reader lines text → Adds old new (λ more. HasTaken after (lines ++ line ∷ []) (text ++ more)))
     → Adds old new (λ more. HasTapped after [] false (fed ++ (line ++ 10 ∷ [])) (shown ++ more))
 line_new reader after held long fed shown line old new none whole plain h takes =
     let a = takes h.lines shown (taken_of reader held long fed shown whole h) in
     let nothing : h.rest ≡ [] = (held_is reader held long fed shown whole h).1 ∙ none in
-    let before : fed ≡ flat_map ended h.lines = h.split.joined ∙ ap (λ (l : List ℕ). flat_map ended h.lines ++ l) nothing ∙ append-nil (flat_map ended h.lines) in
+    let before : fed ≡ flat_map with_newline h.lines = h.split.joined ∙ ap (λ (l : List ℕ). flat_map with_newline h.lines ++ l) nothing ∙ append-nil (flat_map with_newline h.lines) in
     let split : IsSplit (fed ++ line) h.lines line = record { joined = ap (λ (l : List ℕ). l ++ line) before; plain = h.split.plain; open_line = plain } in
     record {
       more = a.more;
@@ -248,7 +249,7 @@ last_more reader after held long fed shown old new some h a =
 
 -- what the end gives
 pub tapped_all : (reader after : TapReader) (held : List ℕ) (long : Bool) (fed shown old mid new : List ℕ) (events : List Event) → (h : HasTapped reader held long fed shown)
-    → Adds old mid (λ more. HasTaken after (h.lines ++ last_line h.rest) (shown ++ more)) → ((lines : List (List ℕ)) → HasRead after lines → tap_events lines ≡ events_so_far lines ++ events) → new ≡ mid ++ packets_of events
+    → Adds old mid (λ more. HasTaken after (h.lines ++ last_line h.rest) (shown ++ more)) → ((lines : List (List ℕ)) → HasReadLines after lines → tap_events lines ≡ tap_events_so_far lines ++ events) → new ≡ mid ++ packets_of events
     → Adds old new (λ more. IsTapFiltered fed (shown ++ more) 0)
 tapped_all reader after held long fed shown old mid new events h a gives grown =
     let lines = h.lines ++ last_line h.rest in
@@ -260,7 +261,7 @@ tapped_all reader after held long fed shown old mid new events h a gives grown =
         lines = h.lines;
         rest = h.rest;
         split = h.split;
-        made = sym (append_assoc shown a.more last) ∙ ap (λ (l : List ℕ). l ++ last) a.holds.made ∙ sym (packets_then (events_so_far lines) events) ∙ ap packets_of (sym (gives lines a.holds.taken));
+        made = sym (append_assoc shown a.more last) ∙ ap (λ (l : List ℕ). l ++ last) a.holds.made ∙ sym (packets_then (tap_events_so_far lines) events) ∙ ap packets_of (sym (gives lines a.holds.taken));
         status = refl;
       };
     }
@@ -280,7 +281,7 @@ fed_line reader after held later long longer piece end fed shown old mid new fro
     (adds_then (HasTapped reader held long) (HasTapped after [] false) (fed ++ take from piece) (end ++ 10 ∷ []) shown old mid new first then_next)))
 
 -- what follows the last newline in it
-pub fed_rest : (reader : TapReader) (held later : List ℕ) (long longer : Bool) (piece bytes fed shown old mid new : List ℕ) (from : ℕ) → bytes ≡ drop from piece → IsPlain bytes
+pub fed_rest : (reader : TapReader) (held later : List ℕ) (long longer : Bool) (piece bytes fed shown old mid new : List ℕ) (from : ℕ) → bytes ≡ drop from piece → HasNoNewline bytes
     → Adds old mid (λ more. HasTapped reader held long (fed ++ take from piece) (shown ++ more)) → IsAdded held long bytes later longer mid new
     → Adds old new (λ more. HasTapped reader later longer (fed ++ piece) (shown ++ more))
 fed_rest reader held later long longer piece bytes fed shown old mid new from is plain first added =
@@ -292,7 +293,7 @@ fed_rest reader held later long longer piece bytes fed shown old mid new from is
 -- Bytes that are added to a line.
 
 -- a whole piece
-pub added_full : (bytes held : List ℕ) (long : Bool) (old new : List ℕ) → held ≡ [] → long ≡ true → length bytes ≡ longest_line → new ≡ old ++ canonical (stdout_event bytes) → IsAdded [] true bytes held long old new
+pub added_full : (bytes held : List ℕ) (long : Bool) (old new : List ℕ) → held ≡ [] → long ≡ true → length bytes ≡ longest_tap_line → new ≡ old ++ canonical (stdout_event bytes) → IsAdded [] true bytes held long old new
 added_full bytes held false old new none is full grown = absurd cc
 added_full bytes held true old new none is full grown = record {
   pieces = bytes ∷ [];
@@ -310,7 +311,7 @@ kind_behind false true size sum pieces others more kind = more
 kind_behind true true size sum pieces others more kind = tt
 
 -- a piece that they fill up, and what is behind it
-pub added_piece : (held bytes front behind piece later : List ℕ) (long longer : Bool) (old mid new : List ℕ) → piece ≡ held ++ front → bytes ≡ front ++ behind → length piece ≡ longest_line
+pub added_piece : (held bytes front behind piece later : List ℕ) (long longer : Bool) (old mid new : List ℕ) → piece ≡ held ++ front → bytes ≡ front ++ behind → length piece ≡ longest_tap_line
     → mid ≡ old ++ canonical (stdout_event piece) → most_open long < length bytes + length held → IsAdded [] true behind later longer mid new → IsAdded held long bytes later longer old new
 added_piece held bytes front behind piece later long longer old mid new is both full grown more a =
     let packet = canonical (stdout_event piece) in
@@ -326,10 +327,10 @@ added_piece held bytes front behind piece later long longer old mid new is both 
       grown = a.grown ∙ ap (λ (l : List ℕ). l ++ others) grown ∙ append_assoc old packet others;
     }
 
-pub piece_fits : (event : Event) (piece bytes : List ℕ) → event ≡ stdout_event piece → piece ≡ bytes → length bytes ≤ longest_line → Fits event
+pub piece_fits : (event : Event) (piece bytes : List ℕ) → event ≡ stdout_event piece → piece ≡ bytes → length bytes ≤ longest_tap_line → Fits event
 piece_fits event piece bytes is same short = rw is (stdout_fits piece (omega (arith, ap length same, short)))
 
-pub most_open_most : (long : Bool) → most_open long ≤ longest_line
+pub most_open_most : (long : Bool) → most_open long ≤ longest_tap_line
 most_open_most true = omega arith
 most_open_most false = omega arith
 

@@ -5,25 +5,24 @@ use Rattle.std.specs.Option.{option_map, option_and_then, option_to_list}
 use Rattle.edge_io.specs.Bytes.{AppendsPrefix}
 use Rattle.edge_io.specs.Seen.{Seen}
 use Rattle.packet_codec.specs.declared.event.Event.{Event}
-use Rattle.packet_codec.specs.Canonical.{canonical}
+use Rattle.packet_codec.specs.Canonical.{canonical, packets_of}
 use Rattle.sub_export.specs.declared.job.Attachment.{Attachment}
 use Rattle.sub_export.specs.declared.job.Job.{Job}
-use Rattle.sub_export.specs.Output.{piece_of, pieces_of, output_events, last_event}
+use Rattle.sub_export.specs.Output.{attachment_event, pieces_of, output_events, last_event}
 use Rattle.filter_cli.specs.Attached.{WritesAlone, events_of_pieces}
-use Rattle.filter_cli.specs.Events.{packets_of}
 use Rattle.filter_cli.specs.Pipe.{Pipe}
 use Rattle.filter_cli.specs.Program.{LeavesUnread}
 use Rattle.filter_cli.specs.Promises.{GivesAll, GivesFirst}
 use Rattle.filter_cli.specs.Streams.{writing_of, ends_by, unread_by, unread_text, unread_with, text_unread}
-use Rattle.filter_cli.specs.Words.{asked_behind, request_of, asked_of, file_in}
+use Rattle.filter_cli.specs.Words.{asked_by_tool, request_of, asked_by_words, input_file_in}
 use Rattle.filter_cli.specs.Tools.{tool_named, tool_of}
 use Rattle.filter_cli.specs.declared.tool.Tool.{Tool}
-use Rattle.filter_cli.specs.declared.asked.Asked.{Asked}
-use Rattle.filter_cli.specs.declared.asked.Request.{Request}
-use Rattle.filter_cli.specs.declared.asked.Asked.TheVariants.{Filter, Tags, Ls, Stats, FromTap, ToTap, ToCsv, ToJunit, Output, FromV1, ToV1, Tracing}
+use Rattle.filter_cli.specs.declared.request.Asked.{Asked}
+use Rattle.filter_cli.specs.declared.request.Request.{Request}
+use Rattle.filter_cli.specs.declared.request.Asked.TheVariants.{Filter, Tags, Ls, Stats, FromTap, ToTap, ToCsv, ToJunit, Output, FromV1, ToV1, Tracing}
 use Rattle.filter_cli.specs.declared.filter.StreamEnd.{StreamEnd}
-use Rattle.filter_cli.specs.declared.pass.PumpFault.{PumpFault}
-use Rattle.filter_cli.specs.declared.pass.PumpFault.TheVariants as pump_fault
+use Rattle.filter_cli.specs.declared.pump_loop.PumpFault.{PumpFault}
+use Rattle.filter_cli.specs.declared.pump_loop.PumpFault.TheVariants as pump_fault
 use Rattle.filter_cli.proofs.Prefixes.{prefix_all}
 
 -- ---- a job that attaches nothing has the same events whatever the bytes
@@ -31,7 +30,7 @@ use Rattle.filter_cli.proofs.Prefixes.{prefix_all}
 none_attached : (job : Job) (pieces : List (List ℕ)) → job.attachment ≡ None → events_of_pieces job pieces ≡ []
 none_attached job [] none = refl
 none_attached job (piece ∷ pieces) none =
-    ap (λ (o : Option Attachment). option_to_list (option_map (λ attachment. piece_of job.stamp job.id attachment piece) o) ++ events_of_pieces job pieces) none
+    ap (λ (o : Option Attachment). option_to_list (option_map (λ attachment. attachment_event job.stamp job.id attachment piece) o) ++ events_of_pieces job pieces) none
     ∙ none_attached job pieces none
 
 output_alone : (job : Job) (bytes : List ℕ) → job.attachment ≡ None → packets_of (output_events job bytes) ≡ canonical (last_event job)
@@ -73,24 +72,24 @@ own_of (Some r) asked shown named some =
     subst (λ (a : Asked). unread_text a ≡ Some shown) same (with_none r.file r.asked shown some)
 
 -- the text of words is that of their filter
-pub unread_own : (words : List (List ℕ)) (asked : Asked) (shown : List ℕ) → asked_of words ≡ Some asked → text_unread words ≡ Some shown → unread_text asked ≡ Some shown
+pub unread_own : (words : List (List ℕ)) (asked : Asked) (shown : List ℕ) → asked_by_words words ≡ Some asked → text_unread words ≡ Some shown → unread_text asked ≡ Some shown
 unread_own words asked shown named some = own_of (request_of words) asked shown named some
 
 -- words of a request ask for its filter
-pub asked_is : (words : List (List ℕ)) (r : Request) → request_of words ≡ Some r → asked_of words ≡ Some r.asked
+pub asked_is : (words : List (List ℕ)) (r : Request) → request_of words ≡ Some r → asked_by_words words ≡ Some r.asked
 asked_is words r named = ap (option_map (λ (q : Request). q.asked)) named
 
-pub file_is : (words : List (List ℕ)) (r : Request) → request_of words ≡ Some r → file_in words ≡ r.file
+pub file_is : (words : List (List ℕ)) (r : Request) → request_of words ≡ Some r → input_file_in words ≡ r.file
 file_is words r named = ap (option_and_then (λ (q : Request). q.file)) named
 
 pub unread_is : (words : List (List ℕ)) (r : Request) → request_of words ≡ Some r → text_unread words ≡ unread_with r.file r.asked
 unread_is words r named = ap (option_and_then (λ (q : Request). unread_with q.file q.asked)) named
 
 -- words that ask for nothing
-pub file_none : (words : List (List ℕ)) → request_of words ≡ None → file_in words ≡ None
+pub file_none : (words : List (List ℕ)) → request_of words ≡ None → input_file_in words ≡ None
 file_none words none = ap (option_and_then (λ (q : Request). q.file)) none
 
-pub asked_none : (words : List (List ℕ)) → request_of words ≡ None → asked_of words ≡ None
+pub asked_none : (words : List (List ℕ)) → request_of words ≡ None → asked_by_words words ≡ None
 asked_none words none = ap (option_map (λ (q : Request). q.asked)) none
 
 file_asks : (request : Option Request) (name : List ℕ) → option_and_then (λ (q : Request). q.file) request ≡ Some name → option_map (λ (q : Request). q.asked) request ≡ None → ⊥
@@ -98,15 +97,15 @@ file_asks None name is none = cc
 file_asks (Some r) name is none = cc
 
 -- words that name a file ask for a filter
-pub named_asks : (words : List (List ℕ)) (name : List ℕ) → file_in words ≡ Some name → asked_of words ≡ None → ⊥
+pub named_asks : (words : List (List ℕ)) (name : List ℕ) → input_file_in words ≡ Some name → asked_by_words words ≡ None → ⊥
 named_asks words name is none = file_asks (request_of words) name is none
 
-asks_named : (first : List ℕ) (words : List (List ℕ)) (asked : Asked) (t : Option Tool) → option_map (λ (q : Request). q.asked) (option_and_then (λ u. asked_behind u words) t) ≡ Some asked → t ≡ None → ⊥
+asks_named : (first : List ℕ) (words : List (List ℕ)) (asked : Asked) (t : Option Tool) → option_map (λ (q : Request). q.asked) (option_and_then (λ u. asked_by_tool u words) t) ≡ Some asked → t ≡ None → ⊥
 asks_named first words asked None named none = cc
 asks_named first words asked (Some t) named none = cc
 
 -- words that ask for a filter begin with its name
-pub asks_tool : (words : List (List ℕ)) (asked : Asked) → asked_of words ≡ Some asked → tool_of words ≡ None → ⊥
+pub asks_tool : (words : List (List ℕ)) (asked : Asked) → asked_by_words words ≡ Some asked → tool_of words ≡ None → ⊥
 asks_tool [] asked named none = cc
 asks_tool (first ∷ words) asked named none = asks_named first words asked (tool_named first) named none
 

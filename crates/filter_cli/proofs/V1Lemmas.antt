@@ -5,29 +5,30 @@ use Rattle.std.proofs.lemmas.List.{map-append, take-append-drop}
 use Rattle.std.proofs.lemmas.List.Concat.{flat_map-append}
 use Rattle.std.proofs.lemmas.List.Folds.{concat-append}
 use Rattle.packet_codec.specs.declared.event.Event.{Event}
+use Rattle.packet_codec.specs.Canonical.{packets_of}
 use Rattle.v1_bridge.specs.declared.reader.V1Reader.{V1Reader}
-use Rattle.v1_bridge.specs.Lines.{without_newline}
-use Rattle.v1_bridge.specs.Events.{longest_line}
-use Rattle.v1_bridge.specs.Reading.{Input, line, piece, front_piece, inputs_of, events_so_far, events_of_inputs, given_behind}
+use Rattle.v1_bridge.specs.Lines.{without_newline, HasNoNewline}
+use Rattle.v1_bridge.specs.Events.{longest_v1_line}
+use Rattle.v1_bridge.specs.Reading.{Input, line, piece, front_piece, inputs_of, events_so_far, events_of_inputs, events_given_behind, last_input}
 use Rattle.v1_bridge.specs.Kept.{HasRead}
 use Rattle.v1_bridge.proofs.LineLemmas.{newline_gone}
 use Rattle.v1_bridge.proofs.RunLemmas.{so_far_push}
+use Rattle.sub_number.specs.Lines.{with_newline}
 use Rattle.filter_cli.specs.Pipe.{Adds}
-use Rattle.filter_cli.specs.Lines.{IsPlain, ended, last_line}
-use Rattle.filter_cli.specs.Events.{packets_of}
+use Rattle.filter_cli.specs.Lines.{last_line}
 use Rattle.filter_cli.specs.TapLaws.{packets_then}
 use Rattle.filter_cli.specs.Tapped.{AreFull, most_open, GivesPieces, IsLonger}
 use Rattle.filter_cli.specs.V1.{inputs_of_lines, all_inputs, IsV1Filtered}
 use Rattle.filter_cli.specs.V1Laws.{plain_line, long_line, short_line}
-use Rattle.filter_cli.specs.V1Fed.{HasHeard, Hears, last_input, HasFed, IsAddedTo}
+use Rattle.filter_cli.specs.V1Fed.{HasHeardV1, HearsV1, HasFedV1, IsAddedTo}
 use Rattle.filter_cli.proofs.TapLemmas.{adds_then, plain_then, lines_more, full_then, kind_behind}
 
 -- ---- what a reader was given
 
 -- one input more, whose events were put into an empty list
 pub hears_one : (before after : V1Reader) (input : Input) (old new : List ℕ) (cleared events : List Event) → cleared ≡ [] → new ≡ old ++ packets_of events
-    → ((inputs : List Input) → HasRead before inputs → events ≡ cleared ++ given_behind inputs input) → ((inputs : List Input) → HasRead before inputs → HasRead after (inputs ++ input ∷ []))
-    → Hears before after (input ∷ []) old new
+    → ((inputs : List Input) → HasRead before inputs → events ≡ cleared ++ events_given_behind inputs input) → ((inputs : List Input) → HasRead before inputs → HasRead after (inputs ++ input ∷ []))
+    → HearsV1 before after (input ∷ []) old new
 hears_one before after input old new cleared events none grown gives read inputs shown h = record {
   more = packets_of events;
   grown = grown;
@@ -39,23 +40,23 @@ hears_one before after input old new cleared events none grown gives read inputs
 }
 
 -- none more
-pub hears_none : (reader : V1Reader) (old : List ℕ) → Hears reader reader [] old old
+pub hears_none : (reader : V1Reader) (old : List ℕ) → HearsV1 reader reader [] old old
 hears_none reader old inputs shown h = record {
   more = [];
   grown = sym (append-nil old);
-  holds = subst (λ (l : List Input). HasHeard reader l (shown ++ [])) (sym (append-nil inputs)) (subst (HasHeard reader inputs) (sym (append-nil shown)) h);
+  holds = subst (λ (l : List Input). HasHeardV1 reader l (shown ++ [])) (sym (append-nil inputs)) (subst (HasHeardV1 reader inputs) (sym (append-nil shown)) h);
 }
 
 -- some, and then others
-pub hears_then : (before middle after : V1Reader) (xs ys : List Input) (old mid new : List ℕ) → Hears before middle xs old mid → Hears middle after ys mid new → Hears before after (xs ++ ys) old new
+pub hears_then : (before middle after : V1Reader) (xs ys : List Input) (old mid new : List ℕ) → HearsV1 before middle xs old mid → HearsV1 middle after ys mid new → HearsV1 before after (xs ++ ys) old new
 hears_then before middle after xs ys old mid new first later inputs shown h =
     let a = first inputs shown h in
     let b = later (inputs ++ xs) (shown ++ a.more) a.holds in
     record {
       more = a.more ++ b.more;
       grown = b.grown ∙ ap (λ (l : List ℕ). l ++ b.more) a.grown ∙ append_assoc old a.more b.more;
-      holds = subst (λ (l : List Input). HasHeard after l (shown ++ (a.more ++ b.more))) (append_assoc inputs xs ys)
-          (subst (HasHeard after ((inputs ++ xs) ++ ys)) (append_assoc shown a.more b.more) b.holds);
+      holds = subst (λ (l : List Input). HasHeardV1 after l (shown ++ (a.more ++ b.more))) (append_assoc inputs xs ys)
+          (subst (HasHeardV1 after ((inputs ++ xs) ++ ys)) (append_assoc shown a.more b.more) b.holds);
     }
 
 -- ---- bytes that are added to a line
@@ -76,7 +77,7 @@ added_few reader held bytes later long old is few = record {
     none_longer true size = tt
 
 -- a whole piece behind another one
-pub added_whole : (reader after : V1Reader) (bytes held : List ℕ) (long : Bool) (old new : List ℕ) → held ≡ [] → long ≡ true → length bytes ≡ longest_line → Hears reader after (piece bytes false ∷ []) old new → IsAddedTo reader after [] true bytes held long old new
+pub added_whole : (reader after : V1Reader) (bytes held : List ℕ) (long : Bool) (old new : List ℕ) → held ≡ [] → long ≡ true → length bytes ≡ longest_v1_line → HearsV1 reader after (piece bytes false ∷ []) old new → IsAddedTo reader after [] true bytes held long old new
 added_whole reader after bytes held false old new none is full hears = absurd cc
 added_whole reader after bytes held true old new none is full hears = record {
   pieces = bytes ∷ [];
@@ -88,13 +89,13 @@ added_whole reader after bytes held true old new none is full hears = record {
 }
 
 -- fewer bytes than a piece behind another one
-pub added_behind : (reader : V1Reader) (held bytes later : List ℕ) (long : Bool) (old : List ℕ) → held ≡ [] → long ≡ true → later ≡ held ++ bytes → length bytes < longest_line → IsAddedTo reader reader [] true bytes later long old old
+pub added_behind : (reader : V1Reader) (held bytes later : List ℕ) (long : Bool) (old : List ℕ) → held ≡ [] → long ≡ true → later ≡ held ++ bytes → length bytes < longest_v1_line → IsAddedTo reader reader [] true bytes later long old old
 added_behind reader held bytes later false old none is same few = absurd cc
 added_behind reader held bytes later true old none is same few = added_few reader [] bytes later true old (same ∙ ap (λ (l : List ℕ). l ++ bytes) none) (omega (arith, few))
 
 -- a piece that they fill up, and what is behind it
-pub added_more : (reader middle after : V1Reader) (held bytes front behind filled later : List ℕ) (long longer : Bool) (old mid new : List ℕ) → filled ≡ held ++ front → bytes ≡ front ++ behind → length filled ≡ longest_line
-    → most_open long < length bytes + length held → Hears reader middle (piece filled false ∷ []) old mid → IsAddedTo middle after [] true behind later longer mid new → IsAddedTo reader after held long bytes later longer old new
+pub added_more : (reader middle after : V1Reader) (held bytes front behind filled later : List ℕ) (long longer : Bool) (old mid new : List ℕ) → filled ≡ held ++ front → bytes ≡ front ++ behind → length filled ≡ longest_v1_line
+    → most_open long < length bytes + length held → HearsV1 reader middle (piece filled false ∷ []) old mid → IsAddedTo middle after [] true behind later longer mid new → IsAddedTo reader after held long bytes later longer old new
 added_more reader middle after held bytes front behind filled later long longer old mid new is both full more first a =
     let size : most_open long < length (held ++ bytes) = omega (arith, more, length-append held bytes) in
     record {
@@ -109,8 +110,8 @@ added_more reader middle after held bytes front behind filled later long longer 
 
 -- ---- bytes of a line
 
-pub fed_none : (reader : V1Reader) (held : List ℕ) (long : Bool) → held ≡ [] → long ≡ false → HasRead reader [] → HasFed reader held long [] []
-fed_none reader held long none new read = subst (λ (l : List ℕ). HasFed reader l long [] []) (sym none) (subst (λ (b : Bool). HasFed reader [] b [] []) (sym new) (record {
+pub fed_none : (reader : V1Reader) (held : List ℕ) (long : Bool) → held ≡ [] → long ≡ false → HasRead reader [] → HasFedV1 reader held long [] []
+fed_none reader held long none new read = subst (λ (l : List ℕ). HasFedV1 reader l long [] []) (sym none) (subst (λ (b : Bool). HasFedV1 reader [] b [] []) (sym new) (record {
   lines = [];
   rest = [];
   split = record { joined = refl; plain = tt; open_line = tt };
@@ -129,8 +130,8 @@ kind_more false true rest held bytes pieces more is kind grows =
     omega (arith, grows, ap length is, length-append (concat pieces) held, length-append held bytes, length-append rest bytes)
 kind_more true true rest held bytes pieces more is kind grows = omega (arith, kind, length-append rest bytes)
 
-pub fed_more : (reader after : V1Reader) (held : List ℕ) (long : Bool) (fed shown bytes later : List ℕ) (longer : Bool) (old new : List ℕ) → IsPlain bytes → HasFed reader held long fed shown → IsAddedTo reader after held long bytes later longer old new
-    → Adds old new (λ more. HasFed after later longer (fed ++ bytes) (shown ++ more))
+pub fed_more : (reader after : V1Reader) (held : List ℕ) (long : Bool) (fed shown bytes later : List ℕ) (longer : Bool) (old new : List ℕ) → HasNoNewline bytes → HasFedV1 reader held long fed shown → IsAddedTo reader after held long bytes later longer old new
+    → Adds old new (λ more. HasFedV1 after later longer (fed ++ bytes) (shown ++ more))
 fed_more reader after held long fed shown bytes later longer old new plain h a =
     let front = inputs_of_lines h.lines in
     let inputs : (front ++ map front_piece h.pieces) ++ map front_piece a.pieces ≡ front ++ map front_piece (h.pieces ++ a.pieces) =
@@ -143,7 +144,7 @@ fed_more reader after held long fed shown bytes later longer old new plain h a =
         lines = h.lines;
         rest = h.rest ++ bytes;
         split = record {
-          joined = ap (λ (l : List ℕ). l ++ bytes) h.split.joined ∙ append_assoc (flat_map ended h.lines) h.rest bytes;
+          joined = ap (λ (l : List ℕ). l ++ bytes) h.split.joined ∙ append_assoc (flat_map with_newline h.lines) h.rest bytes;
           plain = h.split.plain;
           open_line = plain_then h.rest bytes h.split.open_line plain;
         };
@@ -153,7 +154,7 @@ fed_more reader after held long fed shown bytes later longer old new plain h a =
         full = full_then h.pieces a.pieces h.full a.full;
         short = a.short;
         kind = kind_more long longer h.rest held bytes h.pieces a.pieces h.joined h.kind a.kind;
-        heard = subst (λ (l : List Input). HasHeard after l (shown ++ b.more)) inputs b.holds;
+        heard = subst (λ (l : List Input). HasHeardV1 after l (shown ++ b.more)) inputs b.holds;
       };
     }
 
@@ -170,16 +171,16 @@ line_inputs true rest tail pieces held says is full short longer = long_line res
 
 -- all inputs up to the end of the line that is read
 up_to : (lines : List (List ℕ)) (rest tail : List ℕ) (pieces : List (List ℕ)) (last : Input) → inputs_of (rest ++ tail) ≡ map front_piece pieces ++ last ∷ []
-    → (inputs_of_lines lines ++ map front_piece pieces) ++ last ∷ [] ≡ flat_map inputs_of (map ended lines ++ (rest ++ tail) ∷ [])
+    → (inputs_of_lines lines ++ map front_piece pieces) ++ last ∷ [] ≡ flat_map inputs_of (map with_newline lines ++ (rest ++ tail) ∷ [])
 up_to lines rest tail pieces last is =
     append_assoc (inputs_of_lines lines) (map front_piece pieces) (last ∷ []) ∙ ap (λ (l : List Input). inputs_of_lines lines ++ l) (sym is)
     ∙ ap (λ (l : List Input). inputs_of_lines lines ++ l) (sym (append-nil (inputs_of (rest ++ tail))))
-    ∙ sym (flat_map-append inputs_of (map ended lines) ((rest ++ tail) ∷ []))
+    ∙ sym (flat_map-append inputs_of (map with_newline lines) ((rest ++ tail) ∷ []))
 
 -- the line, once its newline is there
-pub fed_line : (reader middle after : V1Reader) (held : List ℕ) (long : Bool) (fed shown end later pushed : List ℕ) (longer : Bool) (old mid new : List ℕ) → IsPlain end → HasFed reader held long fed shown → IsAddedTo reader middle held long end later longer old mid
-    → pushed ≡ later ++ 10 ∷ [] → Hears middle after (last_input longer pushed ∷ []) mid new
-    → Adds old new (λ more. HasFed after [] false (fed ++ (end ++ 10 ∷ [])) (shown ++ more))
+pub fed_line : (reader middle after : V1Reader) (held : List ℕ) (long : Bool) (fed shown end later pushed : List ℕ) (longer : Bool) (old mid new : List ℕ) → HasNoNewline end → HasFedV1 reader held long fed shown → IsAddedTo reader middle held long end later longer old mid
+    → pushed ≡ later ++ 10 ∷ [] → HearsV1 middle after (last_input longer pushed ∷ []) mid new
+    → Adds old new (λ more. HasFedV1 after [] false (fed ++ (end ++ 10 ∷ [])) (shown ++ more))
 fed_line reader middle after held long fed shown end later pushed longer old mid new plain h added is hears =
     let a = fed_more reader middle held long fed shown end later longer old mid plain h added in
     let k = a.holds in
@@ -189,8 +190,8 @@ fed_line reader middle after held long fed shown end later pushed longer old mid
     let inputs : (inputs_of_lines k.lines ++ map front_piece k.pieces) ++ last_input longer pushed ∷ [] ≡ inputs_of_lines (k.lines ++ k.rest ∷ []) ++ [] =
     ap (λ (i : Input). (inputs_of_lines k.lines ++ map front_piece k.pieces) ++ i ∷ []) same
     ∙ up_to k.lines k.rest (10 ∷ []) k.pieces last (line_inputs longer k.rest (10 ∷ []) k.pieces later (newline_gone k.rest) k.joined k.full k.short k.kind)
-    ∙ ap (flat_map inputs_of) (sym (map-append ended k.lines (k.rest ∷ []))) ∙ sym (append-nil (inputs_of_lines (k.lines ++ k.rest ∷ []))) in
-    let all : flat_map ended (k.lines ++ k.rest ∷ []) ≡ flat_map ended k.lines ++ ended k.rest = flat_map-append ended k.lines (k.rest ∷ []) ∙ ap (λ (l : List ℕ). flat_map ended k.lines ++ l) (append-nil (ended k.rest)) in
+    ∙ ap (flat_map inputs_of) (sym (map-append with_newline k.lines (k.rest ∷ []))) ∙ sym (append-nil (inputs_of_lines (k.lines ++ k.rest ∷ []))) in
+    let all : flat_map with_newline (k.lines ++ k.rest ∷ []) ≡ flat_map with_newline k.lines ++ with_newline k.rest = flat_map-append with_newline k.lines (k.rest ∷ []) ∙ ap (λ (l : List ℕ). flat_map with_newline k.lines ++ l) (append-nil (with_newline k.rest)) in
     record {
       more = a.more ++ b.more;
       grown = b.grown ∙ ap (λ (l : List ℕ). l ++ b.more) a.grown ∙ append_assoc old a.more b.more;
@@ -198,7 +199,7 @@ fed_line reader middle after held long fed shown end later pushed longer old mid
         lines = k.lines ++ k.rest ∷ [];
         rest = [];
         split = record {
-          joined = sym (append_assoc fed end (10 ∷ [])) ∙ ap (λ (l : List ℕ). l ++ 10 ∷ []) k.split.joined ∙ append_assoc (flat_map ended k.lines) k.rest (10 ∷ []) ∙ sym all ∙ sym (append-nil (flat_map ended (k.lines ++ k.rest ∷ [])));
+          joined = sym (append_assoc fed end (10 ∷ [])) ∙ ap (λ (l : List ℕ). l ++ 10 ∷ []) k.split.joined ∙ append_assoc (flat_map with_newline k.lines) k.rest (10 ∷ []) ∙ sym all ∙ sym (append-nil (flat_map with_newline (k.lines ++ k.rest ∷ [])));
           plain = lines_more k.lines k.rest k.split.plain k.split.open_line;
           open_line = tt;
         };
@@ -207,53 +208,53 @@ fed_line reader middle after held long fed shown end later pushed longer old mid
         full = tt;
         short = omega arith;
         kind = refl;
-        heard = subst (λ (l : List Input). HasHeard after l (shown ++ (a.more ++ b.more))) inputs (subst (HasHeard after ((inputs_of_lines k.lines ++ map front_piece k.pieces) ++ last_input longer pushed ∷ [])) (append_assoc shown a.more b.more) b.holds);
+        heard = subst (λ (l : List Input). HasHeardV1 after l (shown ++ (a.more ++ b.more))) inputs (subst (HasHeardV1 after ((inputs_of_lines k.lines ++ map front_piece k.pieces) ++ last_input longer pushed ∷ [])) (append_assoc shown a.more b.more) b.holds);
       };
     }
 
 -- the line with its newline, of which nothing was held
-pub fed_whole : (reader after : V1Reader) (held : List ℕ) (long : Bool) (fed shown end ended : List ℕ) (old new : List ℕ) → held ≡ [] → long ≡ false → IsPlain end → length end ≤ longest_line → ended ≡ end ++ 10 ∷ [] → HasFed reader held long fed shown
-    → Hears reader after (line ended ∷ []) old new → Adds old new (λ more. HasFed after [] false (fed ++ (end ++ 10 ∷ [])) (shown ++ more))
+pub fed_whole : (reader after : V1Reader) (held : List ℕ) (long : Bool) (fed shown end ended : List ℕ) (old new : List ℕ) → held ≡ [] → long ≡ false → HasNoNewline end → length end ≤ longest_v1_line → ended ≡ end ++ 10 ∷ [] → HasFedV1 reader held long fed shown
+    → HearsV1 reader after (line ended ∷ []) old new → Adds old new (λ more. HasFedV1 after [] false (fed ++ (end ++ 10 ∷ [])) (shown ++ more))
 fed_whole reader after held long fed shown end ended old new none whole plain few is h hears =
-    let open_line : HasFed reader [] false fed shown = subst (λ (b : Bool). HasFed reader [] b fed shown) whole (subst (λ (l : List ℕ). HasFed reader l long fed shown) none h) in
+    let open_line : HasFedV1 reader [] false fed shown = subst (λ (b : Bool). HasFedV1 reader [] b fed shown) whole (subst (λ (l : List ℕ). HasFedV1 reader l long fed shown) none h) in
     fed_line reader reader after [] false fed shown end end ended false old old new plain open_line (added_few reader [] end end false old refl (omega (arith, few))) is hears
 
 -- it is short enough
-pub whole_is_short : (end ended : List ℕ) → ended ≡ end ++ 10 ∷ [] → length end ≤ longest_line → length (without_newline ended) ≤ longest_line
-whole_is_short end ended is few = subst (λ (l : List ℕ). length l ≤ longest_line) (sym (ap without_newline is ∙ newline_gone end)) few
+pub whole_is_short : (end ended : List ℕ) → ended ≡ end ++ 10 ∷ [] → length end ≤ longest_v1_line → length (without_newline ended) ≤ longest_v1_line
+whole_is_short end ended is few = subst (λ (l : List ℕ). length l ≤ longest_v1_line) (sym (ap without_newline is ∙ newline_gone end)) few
 
 -- ---- the end
 
 -- what is held of a line that was not taken in pieces is all of it
-held_is : (reader : V1Reader) (held : List ℕ) (long : Bool) (fed shown : List ℕ) → long ≡ false → (h : HasFed reader held long fed shown) → (h.pieces ≡ []) × (h.rest ≡ held)
+held_is : (reader : V1Reader) (held : List ℕ) (long : Bool) (fed shown : List ℕ) → long ≡ false → (h : HasFedV1 reader held long fed shown) → (h.pieces ≡ []) × (h.rest ≡ held)
 held_is reader held true fed shown new h = absurd cc
 held_is reader held false fed shown new h = (h.kind, h.joined ∙ ap (λ (l : List (List ℕ)). concat l ++ held) h.kind)
 
 -- nothing follows the last newline
-pub last_none : (reader : V1Reader) (held : List ℕ) (long : Bool) (fed shown old : List ℕ) → held ≡ [] → long ≡ false → (h : HasFed reader held long fed shown) → Adds old old (λ more. HasHeard reader (all_inputs h.lines h.rest) (shown ++ more))
+pub last_none : (reader : V1Reader) (held : List ℕ) (long : Bool) (fed shown old : List ℕ) → held ≡ [] → long ≡ false → (h : HasFedV1 reader held long fed shown) → Adds old old (λ more. HasHeardV1 reader (all_inputs h.lines h.rest) (shown ++ more))
 last_none reader held long fed shown old none whole h =
     let both = held_is reader held long fed shown whole h in
     let nothing : h.rest ≡ [] = both.1 ∙ none in
     let inputs : inputs_of_lines h.lines ++ map front_piece h.pieces ≡ all_inputs h.lines h.rest =
     ap (λ (l : List (List ℕ)). inputs_of_lines h.lines ++ map front_piece l) both.0 ∙ append-nil (inputs_of_lines h.lines)
-    ∙ ap (flat_map inputs_of) (sym (append-nil (map ended h.lines))) ∙ ap (λ (l : List ℕ). flat_map inputs_of (map ended h.lines ++ last_line l)) (sym nothing) in
+    ∙ ap (flat_map inputs_of) (sym (append-nil (map with_newline h.lines))) ∙ ap (λ (l : List ℕ). flat_map inputs_of (map with_newline h.lines ++ last_line l)) (sym nothing) in
     record {
       more = [];
       grown = sym (append-nil old);
-      holds = subst (λ (l : List Input). HasHeard reader l (shown ++ [])) inputs (subst (HasHeard reader (inputs_of_lines h.lines ++ map front_piece h.pieces)) (sym (append-nil shown)) h.heard);
+      holds = subst (λ (l : List Input). HasHeardV1 reader l (shown ++ [])) inputs (subst (HasHeardV1 reader (inputs_of_lines h.lines ++ map front_piece h.pieces)) (sym (append-nil shown)) h.heard);
     }
 
 one_line : (rest : List ℕ) → (rest ≡ [] → ⊥) → rest ∷ [] ≡ last_line rest
 one_line [] some = absurd (some refl)
 one_line (byte ∷ rest) some = refl
 
-some_rest : (reader : V1Reader) (held : List ℕ) (long : Bool) (fed shown : List ℕ) → ((held ≡ []) × (long ≡ false) → ⊥) → (h : HasFed reader held long fed shown) → h.rest ≡ [] → ⊥
+some_rest : (reader : V1Reader) (held : List ℕ) (long : Bool) (fed shown : List ℕ) → ((held ≡ []) × (long ≡ false) → ⊥) → (h : HasFedV1 reader held long fed shown) → h.rest ≡ [] → ⊥
 some_rest reader held false fed shown some h none = some (sym ((held_is reader held false fed shown refl h).1) ∙ none, refl)
 some_rest reader held true fed shown some h none = absurd (omega (arith, h.kind, ap length none))
 
 -- a line without a newline follows it
-pub last_some : (reader after : V1Reader) (held : List ℕ) (long : Bool) (fed shown old new : List ℕ) → ((held ≡ []) × (long ≡ false) → ⊥) → (h : HasFed reader held long fed shown)
-    → Hears reader after (last_input long held ∷ []) old new → Adds old new (λ more. HasHeard after (all_inputs h.lines h.rest) (shown ++ more))
+pub last_some : (reader after : V1Reader) (held : List ℕ) (long : Bool) (fed shown old new : List ℕ) → ((held ≡ []) × (long ≡ false) → ⊥) → (h : HasFedV1 reader held long fed shown)
+    → HearsV1 reader after (last_input long held ∷ []) old new → Adds old new (λ more. HasHeardV1 after (all_inputs h.lines h.rest) (shown ++ more))
 last_some reader after held long fed shown old new some h hears =
     let b = hears (inputs_of_lines h.lines ++ map front_piece h.pieces) shown h.heard in
     let rest : h.rest ++ [] ≡ h.rest = append-nil h.rest in
@@ -261,13 +262,13 @@ last_some reader after held long fed shown old new some h hears =
     let last : last_input long (held ++ []) ≡ last_input long held = ap (last_input long) (append-nil held) in
     let inputs : (inputs_of_lines h.lines ++ map front_piece h.pieces) ++ last_input long held ∷ [] ≡ all_inputs h.lines h.rest =
     up_to h.lines h.rest [] h.pieces (last_input long held) (line_inputs long h.rest [] h.pieces held says h.joined h.full h.short h.kind ∙ ap (λ (i : Input). map front_piece h.pieces ++ i ∷ []) last)
-    ∙ ap (λ (l : List ℕ). flat_map inputs_of (map ended h.lines ++ l ∷ [])) rest
-    ∙ ap (λ (l : List (List ℕ)). flat_map inputs_of (map ended h.lines ++ l)) (one_line h.rest (some_rest reader held long fed shown some h)) in
-    record { more = b.more; grown = b.grown; holds = subst (λ (l : List Input). HasHeard after l (shown ++ b.more)) inputs b.holds }
+    ∙ ap (λ (l : List ℕ). flat_map inputs_of (map with_newline h.lines ++ l ∷ [])) rest
+    ∙ ap (λ (l : List (List ℕ)). flat_map inputs_of (map with_newline h.lines ++ l)) (one_line h.rest (some_rest reader held long fed shown some h)) in
+    record { more = b.more; grown = b.grown; holds = subst (λ (l : List Input). HasHeardV1 after l (shown ++ b.more)) inputs b.holds }
 
 -- what the end gives
-pub fed_all : (reader after : V1Reader) (held : List ℕ) (long : Bool) (fed shown old mid new : List ℕ) (events : List Event) → (h : HasFed reader held long fed shown)
-    → Adds old mid (λ more. HasHeard after (all_inputs h.lines h.rest) (shown ++ more)) → ((inputs : List Input) → HasRead after inputs → events_of_inputs inputs ≡ events_so_far inputs ++ events) → new ≡ mid ++ packets_of events
+pub fed_all : (reader after : V1Reader) (held : List ℕ) (long : Bool) (fed shown old mid new : List ℕ) (events : List Event) → (h : HasFedV1 reader held long fed shown)
+    → Adds old mid (λ more. HasHeardV1 after (all_inputs h.lines h.rest) (shown ++ more)) → ((inputs : List Input) → HasRead after inputs → events_of_inputs inputs ≡ events_so_far inputs ++ events) → new ≡ mid ++ packets_of events
     → Adds old new (λ more. IsV1Filtered fed (shown ++ more) 0)
 fed_all reader after held long fed shown old mid new events h a gives grown =
     let inputs = all_inputs h.lines h.rest in
@@ -288,22 +289,22 @@ fed_all reader after held long fed shown old mid new events h a gives grown =
 
 -- up to a newline
 pub fed_up_to : (reader after : V1Reader) (held later : List ℕ) (long longer : Bool) (given end fed shown old mid new : List ℕ) (from n : ℕ) → later ≡ [] → longer ≡ false → take n given ≡ take from given ++ (end ++ 10 ∷ [])
-    → Adds old mid (λ more. HasFed reader held long (fed ++ take from given) (shown ++ more))
-    → ((f s : List ℕ) → HasFed reader held long f s → Adds mid new (λ more. HasFed after [] false (f ++ (end ++ 10 ∷ [])) (s ++ more)))
-    → Adds old new (λ more. HasFed after later longer (fed ++ take n given) (shown ++ more))
+    → Adds old mid (λ more. HasFedV1 reader held long (fed ++ take from given) (shown ++ more))
+    → ((f s : List ℕ) → HasFedV1 reader held long f s → Adds mid new (λ more. HasFedV1 after [] false (f ++ (end ++ 10 ∷ [])) (s ++ more)))
+    → Adds old new (λ more. HasFedV1 after later longer (fed ++ take n given) (shown ++ more))
 fed_up_to reader after held later long longer given end fed shown old mid new from n none whole is first then_next =
     let all : (fed ++ take from given) ++ (end ++ 10 ∷ []) ≡ fed ++ take n given = append_assoc fed (take from given) (end ++ 10 ∷ []) ∙ ap (λ (l : List ℕ). fed ++ l) (sym is) in
-    subst (λ (l : List ℕ). Adds old new (λ more. HasFed after l longer (fed ++ take n given) (shown ++ more))) (sym none)
-    (subst (λ (b : Bool). Adds old new (λ more. HasFed after [] b (fed ++ take n given) (shown ++ more))) (sym whole)
-    (subst (λ (l : List ℕ). Adds old new (λ more. HasFed after [] false l (shown ++ more))) all
-    (adds_then (HasFed reader held long) (HasFed after [] false) (fed ++ take from given) (end ++ 10 ∷ []) shown old mid new first then_next)))
+    subst (λ (l : List ℕ). Adds old new (λ more. HasFedV1 after l longer (fed ++ take n given) (shown ++ more))) (sym none)
+    (subst (λ (b : Bool). Adds old new (λ more. HasFedV1 after [] b (fed ++ take n given) (shown ++ more))) (sym whole)
+    (subst (λ (l : List ℕ). Adds old new (λ more. HasFedV1 after [] false l (shown ++ more))) all
+    (adds_then (HasFedV1 reader held long) (HasFedV1 after [] false) (fed ++ take from given) (end ++ 10 ∷ []) shown old mid new first then_next)))
 
 -- what follows the last newline in it
-pub fed_rest : (reader after : V1Reader) (held later : List ℕ) (long longer : Bool) (given bytes fed shown old mid new : List ℕ) (from : ℕ) → bytes ≡ drop from given → IsPlain bytes
-    → Adds old mid (λ more. HasFed reader held long (fed ++ take from given) (shown ++ more)) → IsAddedTo reader after held long bytes later longer mid new
-    → Adds old new (λ more. HasFed after later longer (fed ++ given) (shown ++ more))
+pub fed_rest : (reader after : V1Reader) (held later : List ℕ) (long longer : Bool) (given bytes fed shown old mid new : List ℕ) (from : ℕ) → bytes ≡ drop from given → HasNoNewline bytes
+    → Adds old mid (λ more. HasFedV1 reader held long (fed ++ take from given) (shown ++ more)) → IsAddedTo reader after held long bytes later longer mid new
+    → Adds old new (λ more. HasFedV1 after later longer (fed ++ given) (shown ++ more))
 fed_rest reader after held later long longer given bytes fed shown old mid new from is plain first added =
     let all : (fed ++ take from given) ++ bytes ≡ fed ++ given = append_assoc fed (take from given) bytes ∙ ap (λ (l : List ℕ). fed ++ l) (ap (λ (l : List ℕ). take from given ++ l) is ∙ take-append-drop from given) in
-    subst (λ (l : List ℕ). Adds old new (λ more. HasFed after later longer l (shown ++ more))) all
-    (adds_then (HasFed reader held long) (HasFed after later longer) (fed ++ take from given) bytes shown old mid new first
+    subst (λ (l : List ℕ). Adds old new (λ more. HasFedV1 after later longer l (shown ++ more))) all
+    (adds_then (HasFedV1 reader held long) (HasFedV1 after later longer) (fed ++ take from given) bytes shown old mid new first
     (λ f s h. fed_more reader after held long f s bytes later longer mid new plain h added))

@@ -6,23 +6,23 @@ use Rattle.filter_cli.specs.Steps.{stops, goes_on}
 use Rattle.filter_cli.specs.Pipe.{Pipe}
 use Rattle.filter_cli.specs.Pumping.{PumpsToEnd, ReadFails, WriteFails, PassesLimit, StopsBefore}
 use Rattle.filter_cli.specs.Tools.{tool_of}
-use Rattle.filter_cli.specs.Words.{asked_of}
+use Rattle.filter_cli.specs.Words.{asked_by_words}
 use Rattle.filter_cli.specs.Streams.{writing_of, unread_text, text_unread, inside_by, sees_by, ends_by, AsksFor, HasBadPattern}
 use Rattle.filter_cli.specs.Refusals.{usage_fault}
-use Rattle.filter_cli.specs.Program.{LeavesUnread, PumpsOrLeaves, Passes, Checked}
-use Rattle.filter_cli.specs.declared.asked.Asked.{Asked}
+use Rattle.filter_cli.specs.Program.{LeavesUnread, PumpsOrLeaves, FiltersOrLeaves, Checked}
+use Rattle.filter_cli.specs.declared.request.Asked.{Asked}
 use Rattle.filter_cli.specs.declared.patterns.PatternsFault.TheVariants as patterns_fault
-use Rattle.filter_cli.specs.declared.pass.PumpFault.TheVariants as pump_fault
+use Rattle.filter_cli.specs.declared.pump_loop.PumpFault.TheVariants as pump_fault
 use Rattle.filter_cli.specs.declared.filter.StreamEnd.{StreamEnd}
 use Rattle.filter_cli.specs.declared.refusal.Refusal.{Refusal}
 use Rattle.filter_cli.specs.declared.refusal.Refusal.TheVariants.{Usage, Memory, Patterns, Pump, File}
 use Rattle.filter_cli.specs.declared.file_loop.FileFault.TheVariants as file_fault
 
 pub data Ways (words : List (List ℕ)) (missing : Type 0) (a b : Pipe) (outcome : Result StreamEnd Refusal) : Type 0 where
-  by_usage : outcome ≡ Err (Usage (usage_fault words)) → asked_of words ≡ None → b ≡ a → Ways words missing a b outcome
+  by_usage : outcome ≡ Err (Usage (usage_fault words)) → asked_by_words words ≡ None → b ≡ a → Ways words missing a b outcome
   by_memory : (none : NoMemory) → outcome ≡ Err (Memory none) → (tool_of words ≡ None → ⊥) → b ≡ a → Ways words missing a b outcome
   by_bad : (text : List ℕ) → outcome ≡ Err (Patterns (patterns_fault.Bad text)) → HasBadPattern words → b ≡ a → Ways words missing a b outcome
-  by_want : (asked : Asked) → outcome ≡ Err (Patterns patterns_fault.NoMemory) → asked_of words ≡ Some asked → b ≡ a → Ways words missing a b outcome
+  by_want : (asked : Asked) → outcome ≡ Err (Patterns patterns_fault.NoMemory) → asked_by_words words ≡ Some asked → b ≡ a → Ways words missing a b outcome
   passed : (asked : Asked) (end : StreamEnd) → outcome ≡ Ok end → AsksFor words asked → text_unread words ≡ None → PumpsToEnd (inside_by (writing_of asked)) (ends_by (writing_of asked)) a b end → Ways words missing a b outcome
   by_input : (asked : Asked) → outcome ≡ Err (Pump pump_fault.Input) → AsksFor words asked → text_unread words ≡ None → ReadFails (sees_by (writing_of asked)) a b → Ways words missing a b outcome
   by_file_read : (asked : Asked) (name : List ℕ) → outcome ≡ Err (File name file_fault.Read) → AsksFor words asked → text_unread words ≡ None → ReadFails (sees_by (writing_of asked)) a b → Ways words missing a b outcome
@@ -52,8 +52,8 @@ module _ (words : List (List ℕ)) (missing : Type 0) (a b : Pipe) (outcome : Re
   passes_ways asked (Some text) asks leaves (goes_on end between gives next) =
       gave asked text end next.answer asks leaves (subst (λ (w : Pipe). LeavesUnread text a w (Ok end)) (sym next.same) gives)
 
-  pub checked_ways : (asked : Asked) → asked_of words ≡ Some asked → text_unread words ≡ unread_text asked → Checked asked a b outcome → Ways words missing a b outcome
+  pub checked_ways : (asked : Asked) → asked_by_words words ≡ Some asked → text_unread words ≡ unread_text asked → Checked asked a b outcome → Ways words missing a b outcome
   checked_ways asked named own (stops (patterns_fault.Bad text) is step) = by_bad text is (record { asked = asked; named = named; text = text; bad = step.says }) step.same
   checked_ways asked named own (stops patterns_fault.NoMemory is step) = by_want asked is named step.same
   checked_ways asked named own (goes_on value between step next) =
-      passes_ways asked (unread_text asked) (record { named = named; good = step.says }) own (subst (λ (w : Pipe). Passes asked w b outcome) step.same next)
+      passes_ways asked (unread_text asked) (record { named = named; good = step.says }) own (subst (λ (w : Pipe). FiltersOrLeaves asked w b outcome) step.same next)

@@ -1,6 +1,7 @@
 -- The laws of what is written, by what the input is cut into.
 use Rattle.std.proofs.Common.{◌≡◌, ℕ, List, ◌++◌, refl, sym, ◌∙◌}
 use Rattle.packet_codec.specs.Grammar.{AreBytes}
+use Rattle.packet_codec.specs.Canonical.{packets_of}
 use Rattle.filter_cli.specs.PlanLaws.{plan_front, plan_one, plan_one_seen, plan_some, plan_some_seen}
 use Rattle.filter_cli.specs.Script.{given_by}
 use Rattle.std.specs.List.{filter}
@@ -8,7 +9,6 @@ use Rattle.sub_export.specs.Output.{output_events, pieces_of}
 use Rattle.sub_export.specs.declared.job.Job.{Job}
 use Rattle.filter_cli.specs.Attached.{events_of_pieces, IsOutputSeen}
 use Rattle.filter_cli.specs.AttachedLaws.{attached_front, attached_one}
-use Rattle.filter_cli.specs.Events.{packets_of}
 use Rattle.filter_cli.specs.Tap.{is_full}
 use Rattle.filter_cli.specs.HeadedLaws.{below_front, below_one}
 use Rattle.filter_cli.specs.Plan.{IsSeen, IsFiltered}

@@ -4,7 +4,7 @@ use Rattle.std.specs.List.{flat_map}
 use Rattle.std.specs.Option.{option_map, unwrap_or}
 use Rattle.packet_codec.specs.declared.event.Event.{Event}
 use Rattle.packet_codec.specs.declared.event.FilePart.{FilePart}
-pub use Rattle.event_sift.specs.PacketSifted.{packets_of}
+pub use Rattle.packet_codec.specs.Canonical.{packets_of}
 use Rattle.stream_reader.specs.declared.note.Note.{Note}
 use Rattle.stream_reader.specs.declared.note.Note.TheVariants as note
 use Rattle.stream_reader.specs.Notes.{event_of}
@@ -15,8 +15,8 @@ event_in (note.Event event) = event ∷ []
 event_in (note.Foreign bytes) = []
 
 -- the events among the notes, in order, without foreign bytes
-abbrev pub events_in : List Note → List Event
-events_in notes = flat_map event_in notes
+abbrev pub events_among : List Note → List Event
+events_among notes = flat_map event_in notes
 
 -- output of no test is passed on, unless it is hidden
 abbrev pub passed_on : Bool → List ℕ → List ℕ
@@ -36,12 +36,12 @@ abbrev pub loose_bytes : Event → List ℕ
 loose_bytes e = unwrap_or (loose_in e) []
 
 -- the event is output of no test, and such output is hidden
-abbrev pub is_hidden : Bool → Event → Bool
-is_hidden hidden e = hidden && is_some (loose_in e)
+abbrev pub is_hidden_output : Bool → Event → Bool
+is_hidden_output hidden e = hidden && is_some (loose_in e)
 
 -- the event of a note, unless it is hidden
 abbrev pub heard_in : Bool → Note → List Event
-heard_in hidden (note.Event event) = if is_hidden hidden event then [] else event ∷ []
+heard_in hidden (note.Event event) = if is_hidden_output hidden event then [] else event ∷ []
 heard_in hidden (note.Foreign bytes) = []
 
 -- the events that are not hidden

@@ -10,7 +10,7 @@ use Rattle.event_sift.specs.Keeping.{keeps}
 use Rattle.sub_export.specs.Records.{csv_head_text, csv_row_of, kept_part_at, kept_open_parts}
 use Rattle.filter_cli.specs.Plan.{Plan, IsSeen, IsFiltered}
 use Rattle.filter_cli.specs.Headed.{IsSeenBelow, IsWholeBelow}
-use Rattle.filter_cli.specs.Events.{events_in}
+use Rattle.filter_cli.specs.Events.{events_among}
 
 -- the record of the part that the event completes, where it is kept; foreign bytes are dropped
 abbrev pub record_at : (Row → Bool) → List Event → Note → List ℕ
@@ -20,8 +20,8 @@ record_at kept seen (note.Event event) = flat_map csv_row_of (kept_part_at kept 
 -- at the end the records of the open tests that are kept, by route and id
 abbrev pub csv_plan : (Row → Bool) → Plan
 csv_plan kept = record {
-  gives = λ before note. record_at kept (events_in before) note;
-  at_end = λ notes. flat_map csv_row_of (kept_open_parts kept (events_in notes));
+  gives = λ before note. record_at kept (events_among before) note;
+  at_end = λ notes. flat_map csv_row_of (kept_open_parts kept (events_among notes));
   status = λ notes. 0;
 }
 

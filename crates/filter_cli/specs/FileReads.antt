@@ -48,7 +48,7 @@ SaysWhether name told (Err NoMemory) = IsThere name told
 -- ---- one read
 
 -- the next bytes of the file were read; none come only at its end, or where there is no room for them
-pub record ReadsOn (name : List ℕ) (place : ℕ) (before after : Option Files) (buf : List ℕ) (count : ℕ) : Type 0 where
+pub record ReadsFileOn (name : List ℕ) (place : ℕ) (before after : Option Files) (buf : List ℕ) (count : ℕ) : Type 0 where
   pub took : Consumes (left_of_file name place before) (left_of_file name (place + count) after) (take count buf)
   pub ends : count ≡ 0 → 0 < length buf → IsAtEnd (left_of_file name (place + count) after)
   pub there : IsThere name before

@@ -10,8 +10,8 @@ with_pattern pattern = codes "--with-id=" ++ pattern
 
 -- The word that stands for this one: a letter's long option, with the value that is joined to the letter. Every other word
 -- stands for itself.
-abbrev pub long_word : List ℕ → List ℕ
-long_word word =
+abbrev pub spelled_out : List ℕ → List ℕ
+spelled_out word =
     if bytes_eq word (codes "-s") then codes "--success"
     else (if bytes_eq word (codes "-f") then codes "--no-failure"
     else (if bytes_eq word (codes "-e") then codes "--no-error"
@@ -21,18 +21,18 @@ long_word word =
     else word)))))
 
 -- The word itself, where it is the value of the option before it.
-abbrev pub next_word : (value : Bool) → List ℕ → List ℕ
-next_word value word = if value then word else long_word word
+abbrev pub spelled_out_next : (value : Bool) → List ℕ → List ℕ
+spelled_out_next value word = if value then word else spelled_out word
 
 -- whether the next word is the value of this one, which may be a value itself
-abbrev pub asks_next : (value : Bool) → List ℕ → Bool
-asks_next value word = if value then false else is_addition (long_word word)
+abbrev pub asks_for_value : (value : Bool) → List ℕ → Bool
+asks_for_value value word = if value then false else is_addition (spelled_out word)
 
 -- the words that stand for these, in their order, where the first of them may be the value of an option before it
-abbrev pub long_words_behind : (value : Bool) → List (List ℕ) → List (List ℕ)
-long_words_behind value [] = []
-long_words_behind value (word ∷ words) = next_word value word ∷ long_words_behind (asks_next value word) words
+abbrev pub all_spelled_out_behind : (value : Bool) → List (List ℕ) → List (List ℕ)
+all_spelled_out_behind value [] = []
+all_spelled_out_behind value (word ∷ words) = spelled_out_next value word ∷ all_spelled_out_behind (asks_for_value value word) words
 
 -- all words, in their order
-abbrev pub long_words : List (List ℕ) → List (List ℕ)
-long_words words = long_words_behind false words
+abbrev pub all_spelled_out : List (List ℕ) → List (List ℕ)
+all_spelled_out words = all_spelled_out_behind false words

@@ -3,29 +3,31 @@ use Rattle.std.proofs.Common.{◌≡◌, ◌⊎◌, inl, inr, ℕ, ◌==◌, Boo
 use Rattle.std.specs.List.{flat_map}
 use Rattle.std.proofs.lemmas.Bool.Decides.{Decides-eqb}
 use Rattle.std.proofs.lemmas.List.{map-append}
-use Rattle.filter_cli.specs.Lines.{IsPlain, ArePlain, ended, IsSplit, last_line}
+use Rattle.v1_bridge.specs.Lines.{HasNoNewline}
+use Rattle.sub_number.specs.Lines.{with_newline}
+use Rattle.filter_cli.specs.Lines.{HaveNoNewline, IsSplit, last_line}
 
 -- the first newline ends the first line
-first_line : (l m a b : List ℕ) → IsPlain l → IsPlain m → l ++ 10 ∷ a ≡ m ++ 10 ∷ b → (l ≡ m) × (a ≡ b)
-first_line [] [] a b p q is = (refl, cc)
-first_line [] (y ∷ m) a b p q is = let same : 10 ≡ y = cc in absurd (q.0 (sym same))
-first_line (x ∷ l) [] a b p q is = let same : x ≡ 10 = cc in absurd (p.0 same)
-first_line (x ∷ l) (y ∷ m) a b p q is =
+one_first_line : (l m a b : List ℕ) → HasNoNewline l → HasNoNewline m → l ++ 10 ∷ a ≡ m ++ 10 ∷ b → (l ≡ m) × (a ≡ b)
+one_first_line [] [] a b p q is = (refl, cc)
+one_first_line [] (y ∷ m) a b p q is = let same : 10 ≡ y = cc in absurd (q.0 (sym same))
+one_first_line (x ∷ l) [] a b p q is = let same : x ≡ 10 = cc in absurd (p.0 same)
+one_first_line (x ∷ l) (y ∷ m) a b p q is =
     let head : x ≡ y = cc in
     let tail : l ++ 10 ∷ a ≡ m ++ 10 ∷ b = cc in
-    let both = first_line l m a b p.1 q.1 tail in
+    let both = one_first_line l m a b p.1 q.1 tail in
     let front = both.0 in
     (cc, both.1)
 
 -- bytes without a newline do not begin with a line that ended
-no_line : (bytes l a : List ℕ) → IsPlain bytes → bytes ≡ l ++ 10 ∷ a → ⊥
+no_line : (bytes l a : List ℕ) → HasNoNewline bytes → bytes ≡ l ++ 10 ∷ a → ⊥
 no_line [] [] a p is = cc
 no_line [] (y ∷ l) a p is = cc
 no_line (x ∷ bytes) [] a p is = let same : x ≡ 10 = cc in p.0 same
 no_line (x ∷ bytes) (y ∷ l) a p is = let tail : bytes ≡ l ++ 10 ∷ a = cc in no_line bytes l a p.1 tail
 
 -- a line that ended begins with what stood there without a newline
-plain_front : (bytes more l a : List ℕ) → IsPlain bytes → bytes ++ more ≡ l ++ 10 ∷ a → (rest : List ℕ) × (l ≡ bytes ++ rest)
+plain_front : (bytes more l a : List ℕ) → HasNoNewline bytes → bytes ++ more ≡ l ++ 10 ∷ a → (rest : List ℕ) × (l ≡ bytes ++ rest)
 plain_front [] more l a p is = (l, refl)
 plain_front (x ∷ bytes) more [] a p is = let same : x ≡ 10 = cc in absurd (p.0 same)
 plain_front (x ∷ bytes) more (y ∷ l) a p is =
@@ -35,18 +37,18 @@ plain_front (x ∷ bytes) more (y ∷ l) a p is =
     (rest, cc)
 
 -- lines that ended, and what follows them, begin with the first line and its newline
-behind : (l : List ℕ) (ls : List (List ℕ)) (rest : List ℕ) → flat_map ended (l ∷ ls) ++ rest ≡ l ++ 10 ∷ (flat_map ended ls ++ rest)
-behind l ls rest = append_assoc (ended l) (flat_map ended ls) rest ∙ append_assoc l (10 ∷ []) (flat_map ended ls ++ rest)
+first_line_in_front : (l : List ℕ) (ls : List (List ℕ)) (rest : List ℕ) → flat_map with_newline (l ∷ ls) ++ rest ≡ l ++ 10 ∷ (flat_map with_newline ls ++ rest)
+first_line_in_front l ls rest = append_assoc (with_newline l) (flat_map with_newline ls) rest ∙ append_assoc l (10 ∷ []) (flat_map with_newline ls ++ rest)
 
 -- the lines that ended come first
-lines_first : (ls ms : List (List ℕ)) (rest more last : List ℕ) → ArePlain ls → ArePlain ms → IsPlain last → (flat_map ended ls ++ rest) ++ more ≡ flat_map ended ms ++ last → (others : List (List ℕ)) × (ms ≡ ls ++ others) × (rest ++ more ≡ flat_map ended others ++ last)
+lines_first : (ls ms : List (List ℕ)) (rest more last : List ℕ) → HaveNoNewline ls → HaveNoNewline ms → HasNoNewline last → (flat_map with_newline ls ++ rest) ++ more ≡ flat_map with_newline ms ++ last → (others : List (List ℕ)) × (ms ≡ ls ++ others) × (rest ++ more ≡ flat_map with_newline others ++ last)
 lines_first [] ms rest more last p q plain is = (ms, refl, is)
 lines_first (l ∷ ls) [] rest more last p q plain is =
-    absurd (no_line last l ((flat_map ended ls ++ rest) ++ more) plain (sym is ∙ ap (λ (b : List ℕ). b ++ more) (behind l ls rest) ∙ append_assoc l (10 ∷ (flat_map ended ls ++ rest)) more))
+    absurd (no_line last l ((flat_map with_newline ls ++ rest) ++ more) plain (sym is ∙ ap (λ (b : List ℕ). b ++ more) (first_line_in_front l ls rest) ∙ append_assoc l (10 ∷ (flat_map with_newline ls ++ rest)) more))
 lines_first (l ∷ ls) (m ∷ ms) rest more last p q plain is =
-    let front : l ++ 10 ∷ ((flat_map ended ls ++ rest) ++ more) ≡ m ++ 10 ∷ (flat_map ended ms ++ last) =
-    sym (append_assoc l (10 ∷ (flat_map ended ls ++ rest)) more) ∙ sym (ap (λ (b : List ℕ). b ++ more) (behind l ls rest)) ∙ is ∙ behind m ms last in
-    let both = first_line l m _ _ p.0 q.0 front in
+    let front : l ++ 10 ∷ ((flat_map with_newline ls ++ rest) ++ more) ≡ m ++ 10 ∷ (flat_map with_newline ms ++ last) =
+    sym (append_assoc l (10 ∷ (flat_map with_newline ls ++ rest)) more) ∙ sym (ap (λ (b : List ℕ). b ++ more) (first_line_in_front l ls rest)) ∙ is ∙ first_line_in_front m ms last in
+    let both = one_first_line l m _ _ p.0 q.0 front in
     let (others, same, left) = lines_first ls ms rest more last p.1 q.1 plain both.1 in
     let head = both.0 in
     (others, cc, left)
@@ -55,46 +57,46 @@ lines_first (l ∷ ls) (m ∷ ms) rest more last p q plain is =
 pub next_line : (bytes more : List ℕ) (ls ms : List (List ℕ)) (rest last : List ℕ) → IsSplit bytes ls rest → IsSplit (bytes ++ more) ms last
     → (others : List (List ℕ)) × (ms ++ last_line last ≡ ls ++ others) × ((rest ≡ []) ⊎ ((tail : List ℕ) × (later : List (List ℕ)) × (others ≡ (rest ++ tail) ∷ later)))
 next_line bytes more ls ms rest last s w =
-    let joined : (flat_map ended ls ++ rest) ++ more ≡ flat_map ended ms ++ last = sym (ap (λ (b : List ℕ). b ++ more) s.joined) ∙ w.joined in
+    let joined : (flat_map with_newline ls ++ rest) ++ more ≡ flat_map with_newline ms ++ last = sym (ap (λ (b : List ℕ). b ++ more) s.joined) ∙ w.joined in
     let (others, same, left) = lines_first ls ms rest more last s.plain w.plain w.open_line joined in
     (others ++ last_line last, ap (λ (l : List (List ℕ)). l ++ last_line last) same ∙ append_assoc ls others (last_line last), next_of rest more others last s.open_line left)
   where
-    next_of : (rest more : List ℕ) (others : List (List ℕ)) (last : List ℕ) → IsPlain rest → rest ++ more ≡ flat_map ended others ++ last
+    next_of : (rest more : List ℕ) (others : List (List ℕ)) (last : List ℕ) → HasNoNewline rest → rest ++ more ≡ flat_map with_newline others ++ last
         → (rest ≡ []) ⊎ ((tail : List ℕ) × (later : List (List ℕ)) × (others ++ last_line last ≡ (rest ++ tail) ∷ later))
     next_of [] more others last plain is = inl refl
     next_of (x ∷ rest) more [] [] plain is = absurd cc
     next_of (x ∷ rest) more [] (y ∷ last) plain is = inr (more, [], ap (λ (l : List ℕ). l ∷ []) (sym is))
     next_of (x ∷ rest) more (o ∷ others) last plain is =
-        let (tail, same) = plain_front (x ∷ rest) more o (flat_map ended others ++ last) plain (is ∙ behind o others last) in
+        let (tail, same) = plain_front (x ∷ rest) more o (flat_map with_newline others ++ last) plain (is ∙ first_line_in_front o others last) in
         inr (tail, others ++ last_line last, ap (λ (l : List ℕ). l ∷ (others ++ last_line last)) same)
 
 -- The same of lines with their newlines, which the last one lacks.
 pub next_ended : (bytes more : List ℕ) (ls ms : List (List ℕ)) (rest last : List ℕ) → IsSplit bytes ls rest → IsSplit (bytes ++ more) ms last
-    → (others : List (List ℕ)) × (map ended ms ++ last_line last ≡ map ended ls ++ others) × ((rest ≡ []) ⊎ ((tail : List ℕ) × (later : List (List ℕ)) × (others ≡ (rest ++ tail) ∷ later)))
+    → (others : List (List ℕ)) × (map with_newline ms ++ last_line last ≡ map with_newline ls ++ others) × ((rest ≡ []) ⊎ ((tail : List ℕ) × (later : List (List ℕ)) × (others ≡ (rest ++ tail) ∷ later)))
 next_ended bytes more ls ms rest last s w =
-    let joined : (flat_map ended ls ++ rest) ++ more ≡ flat_map ended ms ++ last = sym (ap (λ (b : List ℕ). b ++ more) s.joined) ∙ w.joined in
+    let joined : (flat_map with_newline ls ++ rest) ++ more ≡ flat_map with_newline ms ++ last = sym (ap (λ (b : List ℕ). b ++ more) s.joined) ∙ w.joined in
     let (others, same, left) = lines_first ls ms rest more last s.plain w.plain w.open_line joined in
-    let all : map ended ms ++ last_line last ≡ map ended ls ++ (map ended others ++ last_line last) =
-    ap (λ (l : List (List ℕ)). map ended l ++ last_line last) same ∙ ap (λ (l : List (List ℕ)). l ++ last_line last) (map-append ended ls others)
-    ∙ append_assoc (map ended ls) (map ended others) (last_line last) in
-    (map ended others ++ last_line last, all, next_of rest more others last s.open_line left)
+    let all : map with_newline ms ++ last_line last ≡ map with_newline ls ++ (map with_newline others ++ last_line last) =
+    ap (λ (l : List (List ℕ)). map with_newline l ++ last_line last) same ∙ ap (λ (l : List (List ℕ)). l ++ last_line last) (map-append with_newline ls others)
+    ∙ append_assoc (map with_newline ls) (map with_newline others) (last_line last) in
+    (map with_newline others ++ last_line last, all, next_of rest more others last s.open_line left)
   where
-    next_of : (rest more : List ℕ) (others : List (List ℕ)) (last : List ℕ) → IsPlain rest → rest ++ more ≡ flat_map ended others ++ last
-        → (rest ≡ []) ⊎ ((tail : List ℕ) × (later : List (List ℕ)) × (map ended others ++ last_line last ≡ (rest ++ tail) ∷ later))
+    next_of : (rest more : List ℕ) (others : List (List ℕ)) (last : List ℕ) → HasNoNewline rest → rest ++ more ≡ flat_map with_newline others ++ last
+        → (rest ≡ []) ⊎ ((tail : List ℕ) × (later : List (List ℕ)) × (map with_newline others ++ last_line last ≡ (rest ++ tail) ∷ later))
     next_of [] more others last plain is = inl refl
     next_of (x ∷ rest) more [] [] plain is = absurd cc
     next_of (x ∷ rest) more [] (y ∷ last) plain is = inr (more, [], ap (λ (l : List ℕ). l ∷ []) (sym is))
     next_of (x ∷ rest) more (o ∷ others) last plain is =
-        let (tail, same) = plain_front (x ∷ rest) more o (flat_map ended others ++ last) plain (is ∙ behind o others last) in
-        inr (tail ++ 10 ∷ [], map ended others ++ last_line last, ap (λ (l : List ℕ). l ∷ (map ended others ++ last_line last)) (ap ended same ∙ append_assoc (x ∷ rest) tail (10 ∷ [])))
+        let (tail, same) = plain_front (x ∷ rest) more o (flat_map with_newline others ++ last) plain (is ∙ first_line_in_front o others last) in
+        inr (tail ++ 10 ∷ [], map with_newline others ++ last_line last, ap (λ (l : List ℕ). l ∷ (map with_newline others ++ last_line last)) (ap with_newline same ∙ append_assoc (x ∷ rest) tail (10 ∷ [])))
 
 -- bytes are split in one way
-all_same : (ls ms : List (List ℕ)) (rest last : List ℕ) → ArePlain ls → ArePlain ms → IsPlain rest → IsPlain last → flat_map ended ls ++ rest ≡ flat_map ended ms ++ last → (ls ≡ ms) × (rest ≡ last)
+all_same : (ls ms : List (List ℕ)) (rest last : List ℕ) → HaveNoNewline ls → HaveNoNewline ms → HasNoNewline rest → HasNoNewline last → flat_map with_newline ls ++ rest ≡ flat_map with_newline ms ++ last → (ls ≡ ms) × (rest ≡ last)
 all_same [] [] rest last p q unended plain is = (refl, is)
-all_same [] (m ∷ ms) rest last p q unended plain is = absurd (no_line rest m (flat_map ended ms ++ last) unended (is ∙ behind m ms last))
-all_same (l ∷ ls) [] rest last p q unended plain is = absurd (no_line last l (flat_map ended ls ++ rest) plain (sym is ∙ behind l ls rest))
+all_same [] (m ∷ ms) rest last p q unended plain is = absurd (no_line rest m (flat_map with_newline ms ++ last) unended (is ∙ first_line_in_front m ms last))
+all_same (l ∷ ls) [] rest last p q unended plain is = absurd (no_line last l (flat_map with_newline ls ++ rest) plain (sym is ∙ first_line_in_front l ls rest))
 all_same (l ∷ ls) (m ∷ ms) rest last p q unended plain is =
-    let both = first_line l m _ _ p.0 q.0 (sym (behind l ls rest) ∙ is ∙ behind m ms last) in
+    let both = one_first_line l m _ _ p.0 q.0 (sym (first_line_in_front l ls rest) ∙ is ∙ first_line_in_front m ms last) in
     let same = all_same ls ms rest last p.1 q.1 unended plain both.1 in
     let head = both.0 in
     let tail = same.0 in

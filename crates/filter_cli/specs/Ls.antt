@@ -11,7 +11,7 @@ use Rattle.outcome_fold.specs.Answers.{is_run, status_of}
 use Rattle.sub_text.specs.Listed.{ls_line_of}
 use Rattle.filter_cli.specs.declared.ls.Listing.{Listing}
 use Rattle.filter_cli.specs.Plan.{Plan}
-use Rattle.filter_cli.specs.Events.{events_in, passed_on, loose_bytes}
+use Rattle.filter_cli.specs.Events.{events_among, passed_on, loose_bytes}
 
 -- a test that is only known to exist is listed where that is asked for
 abbrev pub shown_line : Listing → Row → List ℕ
@@ -25,7 +25,7 @@ listed listing seen (note.Event event) = passed_on listing.hidden (loose_bytes e
 -- at the end the tests that are left open, by route and id; 1 where a test failed
 abbrev pub ls_plan : Listing → Plan
 ls_plan listing = record {
-  gives = λ before note. listed listing (events_in before) note;
-  at_end = λ notes. flat_map (shown_line listing) (open_rows (events_in notes));
-  status = λ notes. status_of (completed_rows (events_in notes) ++ open_rows (events_in notes));
+  gives = λ before note. listed listing (events_among before) note;
+  at_end = λ notes. flat_map (shown_line listing) (open_rows (events_among notes));
+  status = λ notes. status_of (completed_rows (events_among notes) ++ open_rows (events_among notes));
 }

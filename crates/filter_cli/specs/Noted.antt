@@ -3,7 +3,7 @@ use Rattle.std.specs.Prelude.{◌≡◌, ℕ, false, List, [], ◌∷◌, ◌++�
 use Rattle.packet_codec.specs.Grammar.{AreBytes}
 use Rattle.stream_end.specs.Inside.{ends_inside}
 use Rattle.stream_reader.specs.declared.note.Note.{Note}
-use Rattle.stream_reader.specs.declared.first.First.{First}
+use Rattle.stream_reader.specs.declared.first_note.First.{First}
 use Rattle.stream_reader.specs.Notes.{HasDecided}
 use Rattle.stream_reader.specs.First.{IsMadeBy}
 use Rattle.stream_reader.specs.Stream.{Held, BeginsWithNotes, GivesNote, GivesNotes}
@@ -26,7 +26,7 @@ pub record HasFiltered (takes : List Note → Type 0) (plan : Plan) (held fed sh
   pub made : shown ≡ given_by plan notes
 
 -- a note was taken that is made of what is first, and what it gives was appended
-pub record TakesFirst (takes later : List Note → Type 0) (plan : Plan) (bytes : List ℕ) (first : First) (old new : List ℕ) : Type 0 where
+pub record TakesFirstNote (takes later : List Note → Type 0) (plan : Plan) (bytes : List ℕ) (first : First) (old new : List ℕ) : Type 0 where
   pub note : Note
   pub made : IsMadeBy bytes first note
   pub taken : (notes : List Note) → takes notes → later (notes ++ note ∷ [])

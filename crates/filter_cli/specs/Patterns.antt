@@ -8,8 +8,8 @@ use Rattle.filter_cli.specs.declared.patterns.PatternsFault.{PatternsFault}
 use Rattle.filter_cli.specs.declared.patterns.PatternsFault.TheVariants.{Bad, NoMemory}
 
 -- the rules of a selection
-abbrev pub rules_of : Selection → Rules
-rules_of selection = record {
+abbrev pub rules_of_selection : Selection → Rules
+rules_of_selection selection = record {
   success = selection.success;
   failure = selection.failure;
   skip = selection.skip;
@@ -26,16 +26,16 @@ AreRefused patterns (Bad text) = IsFirstBadText patterns text
 AreRefused patterns NoMemory = ⊤
 
 -- the patterns are good, or the first bad one is named, or memory is wanting
-abbrev pub Compiles : {A : Type 0} → List (List ℕ) → Result A PatternsFault → Type 0
-Compiles patterns (Ok value) = All IsPattern patterns
-Compiles patterns (Err fault) = AreRefused patterns fault
+abbrev pub CompilesPatterns : {A : Type 0} → List (List ℕ) → Result A PatternsFault → Type 0
+CompilesPatterns patterns (Ok value) = All IsPattern patterns
+CompilesPatterns patterns (Err fault) = AreRefused patterns fault
 
 -- ---- the status, and the line behind the filter's name
 
 -- the exit status where patterns are refused: 3 for a bad one, 5 where memory was wanting
-abbrev pub patterns_code : PatternsFault → ℕ
-patterns_code (Bad text) = 3
-patterns_code NoMemory = 5
+abbrev pub patterns_exit_status : PatternsFault → ℕ
+patterns_exit_status (Bad text) = 3
+patterns_exit_status NoMemory = 5
 
 -- what the line of that refusal says behind the filter's name; it ends with a newline
 abbrev pub patterns_text : PatternsFault → List ℕ

@@ -9,22 +9,22 @@ use Rattle.filter_cli.specs.Steps.{Step, Then, Still, Gives, At}
 use Rattle.filter_cli.specs.Pipe.{Pipe}
 use Rattle.filter_cli.specs.Pumping.{Pumps}
 use Rattle.filter_cli.specs.Attached.{WritesAlone}
-use Rattle.filter_cli.specs.declared.pass.PumpFault.{PumpFault}
-use Rattle.filter_cli.specs.Patterns.{Compiles}
-use Rattle.filter_cli.specs.Words.{Reads}
+use Rattle.filter_cli.specs.declared.pump_loop.PumpFault.{PumpFault}
+use Rattle.filter_cli.specs.Patterns.{CompilesPatterns}
+use Rattle.filter_cli.specs.Words.{ReadsRequest}
 use Rattle.filter_cli.specs.Streams.{Writing, writing_of, unread_text, inside_by, sees_by, ends_by, patterns_of}
-use Rattle.filter_cli.specs.Refusals.{usage_fault, name_in, refusal_line, inside_line, code_of}
+use Rattle.filter_cli.specs.Refusals.{usage_fault, filter_name_in, filter_refusal_line, inside_line, filter_exit_status}
 use Rattle.filter_cli.specs.FileReads.{FeedsFile}
-use Rattle.filter_cli.specs.Outside.{Outside, Reach, reach_of, reach_pipe}
-use Rattle.filter_cli.specs.declared.asked.Asked.{Asked}
+use Rattle.filter_cli.specs.Outside.{FilterOutside, Reach, reach_of, reach_pipe}
+use Rattle.filter_cli.specs.declared.request.Asked.{Asked}
 use Rattle.filter_cli.specs.declared.filter.StreamEnd.{StreamEnd}
-use Rattle.filter_cli.specs.declared.asked.Request.{Request}
+use Rattle.filter_cli.specs.declared.request.Request.{Request}
 use Rattle.filter_cli.specs.declared.refusal.UsageFault.{UsageFault}
 use Rattle.filter_cli.specs.declared.refusal.Refusal.{Refusal}
 use Rattle.filter_cli.specs.declared.refusal.Refusal.TheVariants.{Usage, Memory, Patterns, Pump, File}
 
 -- words that are no filter are refused, and touch nothing
-pub record Refuses (fault : UsageFault) (before after : Reach) (outcome : Result StreamEnd Refusal) : Type 0 where
+pub record FilterRefuses (fault : UsageFault) (before after : Reach) (outcome : Result StreamEnd Refusal) : Type 0 where
   pub usage : outcome ≡ Err (Usage fault)
   pub same : after ≡ before
 
@@ -43,12 +43,12 @@ abbrev pub MayBeMade : Result (Unit {0}) NoMemory → Type 0
 MayBeMade made = ⊤
 
 -- the input is filtered or left unread, which gives how it ended, or the refusal `Pump` where the pump stopped
-abbrev pub Passes : Asked → Step Pipe StreamEnd Refusal
-Passes asked = Then Pump (PumpsOrLeaves (unread_text asked) (writing_of asked)) (λ end. Gives end)
+abbrev pub FiltersOrLeaves : Asked → Step Pipe StreamEnd Refusal
+FiltersOrLeaves asked = Then Pump (PumpsOrLeaves (unread_text asked) (writing_of asked)) (λ end. Gives end)
 
 -- first its patterns are checked
 abbrev pub Checked : Asked → Step Pipe StreamEnd Refusal
-Checked asked = Then Patterns (Still (Compiles {A = Unit {0}} (patterns_of asked))) (λ _. Passes asked)
+Checked asked = Then Patterns (Still (CompilesPatterns {A = Unit {0}} (patterns_of asked))) (λ _. FiltersOrLeaves asked)
 
 -- the file of this name is filtered
 abbrev pub FeedsNamed : (name : List ℕ) (inside : List ℕ → Bool) (sees : List ℕ → List ℕ → Type 0) (ends : List ℕ → List ℕ → ℕ → Type 0) → Step Reach StreamEnd Refusal
@@ -59,19 +59,19 @@ abbrev pub MakesAndFeeds : (name : List ℕ) (inside : List ℕ → Bool) (sees 
 MakesAndFeeds name inside sees ends = Then Memory (Still MayBeMade) (λ _. FeedsNamed name inside sees ends)
 
 -- A file that is read by its name stands in the place of the input. Its patterns are checked before it is looked at.
-abbrev pub Takes : Option (List ℕ) → Asked → Step Reach StreamEnd Refusal
-Takes None asked = At reach_pipe (Checked asked)
-Takes (Some name) asked = Then Patterns (Still (Compiles {A = Unit {0}} (patterns_of asked))) (λ _. MakesAndFeeds name (inside_by (writing_of asked)) (sees_by (writing_of asked)) (ends_by (writing_of asked)))
+abbrev pub FiltersFrom : Option (List ℕ) → Asked → Step Reach StreamEnd Refusal
+FiltersFrom None asked = At reach_pipe (Checked asked)
+FiltersFrom (Some name) asked = Then Patterns (Still (CompilesPatterns {A = Unit {0}} (patterns_of asked))) (λ _. MakesAndFeeds name (inside_by (writing_of asked)) (sees_by (writing_of asked)) (ends_by (writing_of asked)))
 
 -- what is asked for is done; where the words ask for nothing, they are refused with this fault
-abbrev pub Performs : UsageFault → Option Request → Step Reach StreamEnd Refusal
-Performs fault None = Refuses fault
-Performs fault (Some request) = Takes request.file request.asked
+abbrev pub FilterPerforms : UsageFault → Option Request → Step Reach StreamEnd Refusal
+FilterPerforms fault None = FilterRefuses fault
+FilterPerforms fault (Some request) = FiltersFrom request.file request.asked
 
 -- all that a filter does, but for the line that it may tell: it reads its words, which takes memory, and does what they ask
 -- for
 abbrev pub Filters : List (List ℕ) → Step Reach StreamEnd Refusal
-Filters words = Then Memory (Still (Reads words)) (λ request. Performs (usage_fault words) request)
+Filters words = Then Memory (Still (ReadsRequest words)) (λ request. FilterPerforms (usage_fault words) request)
 
 -- a line went to the errors' sink: whole, or in part where that sink failed
 abbrev pub TakesLine : (line : List ℕ) → Seen (List ℕ) → Seen (List ℕ) → Type 0
@@ -83,17 +83,17 @@ TellsInside name true before after = TakesLine (inside_line name) before after
 TellsInside name false before after = after ≡ before
 
 -- the line of a refusal went there, or that of the end
-abbrev pub TellsLine : (name : List ℕ) → Result StreamEnd Refusal → Seen (List ℕ) → Seen (List ℕ) → Type 0
-TellsLine name (Ok end) before after = TellsInside name end.inside before after
-TellsLine name (Err refusal) before after = TakesLine (refusal_line name refusal) before after
+abbrev pub FilterTellsLine : (name : List ℕ) → Result StreamEnd Refusal → Seen (List ℕ) → Seen (List ℕ) → Type 0
+FilterTellsLine name (Ok end) before after = TellsInside name end.inside before after
+FilterTellsLine name (Err refusal) before after = TakesLine (filter_refusal_line name refusal) before after
 
 -- the line of a refusal was told, or that of an end inside a packet, where there is one; the answer is the status of the outcome
-pub record Tells (name : List ℕ) (outcome : Result StreamEnd Refusal) (before after : Seen (List ℕ)) (answer : ℕ) : Type 0 where
-  pub line : TellsLine name outcome before after
-  pub code : answer ≡ code_of outcome
+pub record FilterTells (name : List ℕ) (outcome : Result StreamEnd Refusal) (before after : Seen (List ℕ)) (answer : ℕ) : Type 0 where
+  pub line : FilterTellsLine name outcome before after
+  pub code : answer ≡ filter_exit_status outcome
 
 -- one outcome, which the steps made, and its line and its status
-pub record Answers (words : List (List ℕ)) (before after : Outside) (answer : ℕ) : Type 0 where
+pub record FilterAnswers (words : List (List ℕ)) (before after : FilterOutside) (answer : ℕ) : Type 0 where
   pub outcome : Result StreamEnd Refusal
   pub done : Filters words (reach_of before) (reach_of after) outcome
-  pub told : Tells (name_in words) outcome before.errors after.errors answer
+  pub told : FilterTells (filter_name_in words) outcome before.errors after.errors answer

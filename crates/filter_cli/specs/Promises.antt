@@ -5,21 +5,22 @@ use Rattle.edge_io.specs.Causes.{Rose}
 use Rattle.edge_io.specs.Disk.{Files}
 use Rattle.packet_codec.specs.Grammar.{AreBytes}
 use Rattle.edge_io.specs.Bytes.{AppendsPrefix}
+use Rattle.edge_io.specs.Limits.{most_bytes}
 use Rattle.filter_cli.specs.FileReads.{file_pipe, IsAbsent, LeavesRest, SaysMissing}
 use Rattle.filter_cli.specs.Pipe.{Pipe, pipe, NoFault}
-use Rattle.filter_cli.specs.Pumping.{PumpsAll, ReadFails, WriteFails, IsTooLong, most_bytes}
+use Rattle.filter_cli.specs.Pumping.{PumpsAll, ReadFails, WriteFails, IsTooLongInput}
 use Rattle.filter_cli.specs.Tools.{tool_of}
-use Rattle.filter_cli.specs.Words.{asked_of, file_in}
+use Rattle.filter_cli.specs.Words.{asked_by_words, input_file_in}
 use Rattle.filter_cli.specs.Streams.{AsksFor, HasBadPattern, IsSeenBy, IsFilteredBy, is_inside_for, text_unread}
-use Rattle.filter_cli.specs.Outside.{Outside, reach_of, SomeRose}
-use Rattle.filter_cli.specs.Refusals.{name_in}
-use Rattle.filter_cli.specs.Program.{Answers, TellsInside}
-use Rattle.filter_cli.specs.declared.asked.Asked.{Asked}
+use Rattle.filter_cli.specs.Outside.{FilterOutside, reach_of, PipeRose}
+use Rattle.filter_cli.specs.Refusals.{filter_name_in}
+use Rattle.filter_cli.specs.Program.{FilterAnswers, TellsInside}
+use Rattle.filter_cli.specs.declared.request.Asked.{Asked}
 use Rattle.filter_cli.specs.declared.filter.StreamEnd.{StreamEnd}
 use Rattle.filter_cli.specs.declared.refusal.Refusal.{Refusal}
 use Rattle.filter_cli.specs.declared.refusal.Refusal.TheVariants.{Pump, File}
 use Rattle.filter_cli.specs.declared.file_loop.FileFault.TheVariants as file_fault
-use Rattle.filter_cli.specs.declared.pass.PumpFault.TheVariants as pump_fault
+use Rattle.filter_cli.specs.declared.pump_loop.PumpFault.TheVariants as pump_fault
 
 -- ---- where the input is left unread
 
@@ -72,12 +73,12 @@ pub record CanFilter (words : List (List ℕ)) (before : Pipe) : Type 0 where
 -- ---- what is read: the input, or a file by its name
 
 -- what was read up to a place, and the output; of the input the place says nothing
-abbrev pub feed_of : Option (List ℕ) → (place : ℕ) → Outside → Pipe
+abbrev pub feed_of : Option (List ℕ) → (place : ℕ) → FilterOutside → Pipe
 feed_of None place w = pipe w.input w.out
 feed_of (Some name) place w = file_pipe name place (reach_of w)
 
 -- What the words do not read stays as it was, and no file changes. Where there is no file of the name, nothing is written.
-abbrev pub Rests : Option (List ℕ) → Outside → Outside → Type 0
+abbrev pub Rests : Option (List ℕ) → FilterOutside → FilterOutside → Type 0
 Rests None before after = after.site ≡ before.site
 Rests (Some name) before after = LeavesRest name (reach_of before) (reach_of after)
 
@@ -87,7 +88,7 @@ IsMissing None told = ⊥
 IsMissing (Some name) told = IsAbsent name told
 
 -- where the files are told, and there is none of the name that is to be read, the status says so
-abbrev pub RefusesMissing : Option (List ℕ) → Outside → Outside → ℕ → Type 0
+abbrev pub RefusesMissing : Option (List ℕ) → FilterOutside → FilterOutside → ℕ → Type 0
 RefusesMissing None before after answer = ⊤
 RefusesMissing (Some name) before after answer = IfSome before.site.told (λ files. files name ≡ None → SaysMissing before.site after.site answer)
 
@@ -107,25 +108,25 @@ pub record Feeds (words : List (List ℕ)) (outcome : Result StreamEnd Refusal) 
   pub faults : FaultsOf words outcome before after
   pub fault : answer ≡ 4 → ((text_unread words ≡ None) × ReadFails (IsSeenBy words) before after) ⊎ OutputFails words (text_unread words) before after
   -- it does not give up without a cause
-  pub completeness : CanFilter words before → (SomeRose before after → ⊥) → (answer ≤ 1) ⊎ (answer ≡ 5)
+  pub completeness : CanFilter words before → (PipeRose before after → ⊥) → (answer ≤ 1) ⊎ (answer ≡ 5)
 
 -- What each call of the filters promises, for these words, from the outside before it to that after it.
-pub record Promises (words : List (List ℕ)) (before after : Outside) (answer : ℕ) : Type 0 where
+pub record FilterPromises (words : List (List ℕ)) (before after : FilterOutside) (answer : ℕ) : Type 0 where
   -- there is one outcome, which the steps made, and the status and the line on the errors' sink are its own
-  pub answers : Answers words before after answer
+  pub answers : FilterAnswers words before after answer
   pub most : answer ≤ 5
   -- some place of a file that is named: a site does not tell how far it was read
   pub place : ℕ
-  pub feeds : Feeds words answers.outcome (feed_of (file_in words) 0 before) (feed_of (file_in words) place after) answer
-  pub rests : Rests (file_in words) before after
+  pub feeds : Feeds words answers.outcome (feed_of (input_file_in words) 0 before) (feed_of (input_file_in words) place after) answer
+  pub rests : Rests (input_file_in words) before after
   -- where it was done, and what it read is told, the errors' sink has the line of its end exactly where that is inside a packet
-  pub inside : answer ≤ 1 → IfSome (feed_of (file_in words) 0 before).input.told (λ bytes. TellsInside (name_in words) (is_inside_for words bytes) before.errors after.errors)
+  pub inside : answer ≤ 1 → IfSome (feed_of (input_file_in words) 0 before).input.told (λ bytes. TellsInside (filter_name_in words) (is_inside_for words bytes) before.errors after.errors)
   -- a file that is not there is refused
-  pub missing : RefusesMissing (file_in words) before after answer
+  pub missing : RefusesMissing (input_file_in words) before after answer
   -- words that are no filter, and bad patterns, touch nothing
-  pub nothing : (asked_of words ≡ None) ⊎ HasBadPattern words → reach_of after ≡ reach_of before
-  pub usage : answer ≡ 2 → asked_of words ≡ None
+  pub nothing : (asked_by_words words ≡ None) ⊎ HasBadPattern words → reach_of after ≡ reach_of before
+  pub usage : answer ≡ 2 → asked_by_words words ≡ None
   -- words that are no filter are refused as such, or memory was wanting to read those behind a filter's name
-  pub refused : asked_of words ≡ None → (answer ≡ 2) ⊎ ((answer ≡ 5) × (tool_of words ≡ None → ⊥))
+  pub refused : asked_by_words words ≡ None → (answer ≡ 2) ⊎ ((answer ≡ 5) × (tool_of words ≡ None → ⊥))
   -- a pattern is bad, or what is read is too long, or there is no file of the name
-  pub named : answer ≡ 3 → HasBadPattern words ⊎ ((text_unread words ≡ None) × (IsTooLong (feed_of (file_in words) 0 before) ⊎ IsMissing (file_in words) before.site.told))
+  pub named : answer ≡ 3 → HasBadPattern words ⊎ ((text_unread words ≡ None) × (IsTooLongInput (feed_of (input_file_in words) 0 before) ⊎ IsMissing (input_file_in words) before.site.told))

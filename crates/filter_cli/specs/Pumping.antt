@@ -1,22 +1,15 @@
 -- What a pump does, whatever the filter. `sees`, `ends` and `inside` are the filter's: the text that first bytes decide, the
 -- text and status of a whole stream, and whether that ends inside a packet.
-use Rattle.std.specs.Prelude.{◌≡◌, ◌⊎◌, ℕ, ◌<◌, ◌≤◌, ◌^◌, Bool, false, Option, IfSome, List, ◌++◌, length, take, Result, Ok, Err}
+use Rattle.std.specs.Prelude.{◌≡◌, ◌⊎◌, ℕ, ◌<◌, ◌≤◌, Bool, false, Option, IfSome, List, ◌++◌, length, take, Result, Ok, Err}
 use Rattle.std.specs.Io.KnownBytes.{IsAtEnd}
 use Rattle.packet_codec.specs.Grammar.{AreBytes}
 use Rattle.edge_io.specs.Bytes.{AppendsPrefix}
 use Rattle.edge_io.specs.Causes.{Rose}
+use Rattle.edge_io.specs.Limits.{most_bytes, most_at_once}
 use Rattle.filter_cli.specs.Pipe.{Pipe, Moves, NoFault}
 use Rattle.filter_cli.specs.declared.filter.StreamEnd.{StreamEnd}
-use Rattle.filter_cli.specs.declared.pass.PumpFault.{PumpFault}
-use Rattle.filter_cli.specs.declared.pass.PumpFault.TheVariants.{Input, TooLong, Output, NoMemory}
-
--- how many bytes an input may have
-abbrev pub most_bytes : ℕ
-most_bytes = 2 ^ 60
-
--- how many bytes a read gives at most
-abbrev pub most_at_once : ℕ
-most_at_once = 65536
+use Rattle.filter_cli.specs.declared.pump_loop.PumpFault.{PumpFault}
+use Rattle.filter_cli.specs.declared.pump_loop.PumpFault.TheVariants.{Input, TooLong, Output, NoMemory}
 
 -- the whole input was read, and its text was written
 pub record PumpsAll (ends : List ℕ → List ℕ → ℕ → Type 0) (before after : Pipe) (status : ℕ) : Type 0 where
@@ -78,14 +71,14 @@ pub record WriteFails (sees : List ℕ → List ℕ → Type 0) (ends : List ℕ
   pub input : after.input.faults ≡ before.input.faults
 
 -- the input has more bytes than it may
-abbrev pub IsTooLong : Pipe → Type 0
-IsTooLong before = IfSome before.input.told (λ bytes. most_bytes < length bytes)
+abbrev pub IsTooLongInput : Pipe → Type 0
+IsTooLongInput before = IfSome before.input.told (λ bytes. most_bytes < length bytes)
 
 -- It stopped at the piece with which more was read than an input may have.
 pub record PassesLimit (sees : List ℕ → List ℕ → Type 0) (before after : Pipe) : Type 0 where
   pub stops : StopsBefore sees before after
   pub longer : most_bytes < length (stops.front ++ stops.piece)
-  pub told : IsTooLong before
+  pub told : IsTooLongInput before
 
 -- what a pump has done of a pipe, for each result: it came to the end, or stopped for this fault
 abbrev pub Pumps : (inside : List ℕ → Bool) (sees : List ℕ → List ℕ → Type 0) (ends : List ℕ → List ℕ → ℕ → Type 0) → Pipe → Pipe → Result StreamEnd PumpFault → Type 0

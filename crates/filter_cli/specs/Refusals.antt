@@ -5,14 +5,14 @@ use Rattle.filter_cli.specs.declared.refusal.UsageFault.{UsageFault}
 use Rattle.filter_cli.specs.declared.refusal.UsageFault.TheVariants.{Tool, Words}
 use Rattle.filter_cli.specs.declared.refusal.Refusal.{Refusal}
 use Rattle.filter_cli.specs.declared.refusal.Refusal.TheVariants.{Usage, Memory, Patterns, Pump, File}
-use Rattle.filter_cli.specs.declared.pass.PumpFault.{PumpFault}
-use Rattle.filter_cli.specs.declared.pass.PumpFault.TheVariants as pump_fault
+use Rattle.filter_cli.specs.declared.pump_loop.PumpFault.{PumpFault}
+use Rattle.filter_cli.specs.declared.pump_loop.PumpFault.TheVariants as pump_fault
 use Rattle.filter_cli.specs.declared.file_loop.FileFault.{FileFault}
 use Rattle.filter_cli.specs.declared.file_loop.FileFault.TheVariants as file_fault
 use Rattle.filter_cli.specs.declared.tool.Tool.{Tool as ATool}
 use Rattle.filter_cli.specs.declared.filter.StreamEnd.{StreamEnd}
 use Rattle.filter_cli.specs.Tools.{tool_of}
-use Rattle.filter_cli.specs.Patterns.{patterns_code, patterns_text}
+use Rattle.filter_cli.specs.Patterns.{patterns_exit_status, patterns_text}
 
 -- why words are no filter: the first one names none, or those behind it are wrong
 abbrev pub usage_with : Option ATool → UsageFault
@@ -24,9 +24,9 @@ abbrev pub usage_fault : List (List ℕ) → UsageFault
 usage_fault words = usage_with (tool_of words)
 
 -- a line begins with the filter's name, which is the first word; where that names no filter, the line has none
-abbrev pub name_in : List (List ℕ) → List ℕ
-name_in [] = []
-name_in (name ∷ words) = name
+abbrev pub filter_name_in : List (List ℕ) → List ℕ
+filter_name_in [] = []
+filter_name_in (name ∷ words) = name
 
 -- the whole line of wrong usage, which has the filter's name only where the first word names a filter
 abbrev pub usage_line : (name : List ℕ) → UsageFault → List ℕ
@@ -35,11 +35,11 @@ usage_line name Words = name ++ codes ": wrong usage\n"
 
 -- the exit status where a pump stopped: 3 for an input that is too long, 4 where a call failed, 5 where memory was
 -- wanting
-abbrev pub pump_code : PumpFault → ℕ
-pump_code pump_fault.Input = 4
-pump_code pump_fault.TooLong = 3
-pump_code pump_fault.Output = 4
-pump_code pump_fault.NoMemory = 5
+abbrev pub pump_exit_status : PumpFault → ℕ
+pump_exit_status pump_fault.Input = 4
+pump_exit_status pump_fault.TooLong = 3
+pump_exit_status pump_fault.Output = 4
+pump_exit_status pump_fault.NoMemory = 5
 
 -- what the line of that refusal says behind the filter's name
 abbrev pub pump_text : PumpFault → List ℕ
@@ -50,12 +50,12 @@ pump_text pump_fault.NoMemory = codes ": out of memory\n"
 
 -- the exit status where a named file was not filtered whole: 3 where it is not there or too long, 4 where a call failed,
 -- 5 where memory was wanting
-abbrev pub file_code : FileFault → ℕ
-file_code file_fault.Read = 4
-file_code file_fault.NoFile = 3
-file_code file_fault.TooLong = 3
-file_code file_fault.Output = 4
-file_code file_fault.NoMemory = 5
+abbrev pub file_exit_status : FileFault → ℕ
+file_exit_status file_fault.Read = 4
+file_exit_status file_fault.NoFile = 3
+file_exit_status file_fault.TooLong = 3
+file_exit_status file_fault.Output = 4
+file_exit_status file_fault.NoMemory = 5
 
 -- what the line of that refusal says behind the filter's name; a file that is not there or too long is named
 abbrev pub file_text : (file : List ℕ) → FileFault → List ℕ
@@ -67,26 +67,26 @@ file_text file file_fault.NoMemory = codes ": out of memory\n"
 
 -- the exit status of a refusal: 2 for wrong usage, 3 for a pattern, input or file that is not taken, 4 where a call
 -- failed, 5 for want of memory
-abbrev pub refusal_code : Refusal → ℕ
-refusal_code (Usage fault) = 2
-refusal_code (Memory fault) = 5
-refusal_code (Patterns fault) = patterns_code fault
-refusal_code (Pump fault) = pump_code fault
-refusal_code (File file fault) = file_code fault
+abbrev pub filter_refusal_exit_status : Refusal → ℕ
+filter_refusal_exit_status (Usage fault) = 2
+filter_refusal_exit_status (Memory fault) = 5
+filter_refusal_exit_status (Patterns fault) = patterns_exit_status fault
+filter_refusal_exit_status (Pump fault) = pump_exit_status fault
+filter_refusal_exit_status (File file fault) = file_exit_status fault
 
 -- the whole line of a refusal, which begins with the filter's name where the words name a filter
-abbrev pub refusal_line : (name : List ℕ) → Refusal → List ℕ
-refusal_line name (Usage fault) = usage_line name fault
-refusal_line name (Memory fault) = name ++ codes ": out of memory\n"
-refusal_line name (Patterns fault) = name ++ patterns_text fault
-refusal_line name (Pump fault) = name ++ pump_text fault
-refusal_line name (File file fault) = name ++ file_text file fault
+abbrev pub filter_refusal_line : (name : List ℕ) → Refusal → List ℕ
+filter_refusal_line name (Usage fault) = usage_line name fault
+filter_refusal_line name (Memory fault) = name ++ codes ": out of memory\n"
+filter_refusal_line name (Patterns fault) = name ++ patterns_text fault
+filter_refusal_line name (Pump fault) = name ++ pump_text fault
+filter_refusal_line name (File file fault) = name ++ file_text file fault
 
 -- the line that tells that what was read ends inside a packet; it is no refusal
 abbrev pub inside_line : (name : List ℕ) → List ℕ
 inside_line name = name ++ codes ": the input ends inside a packet\n"
 
 -- the exit status of an outcome: the filter's own, or that of the refusal
-abbrev pub code_of : Result StreamEnd Refusal → ℕ
-code_of (Ok end) = end.status
-code_of (Err refusal) = refusal_code refusal
+abbrev pub filter_exit_status : Result StreamEnd Refusal → ℕ
+filter_exit_status (Ok end) = end.status
+filter_exit_status (Err refusal) = filter_refusal_exit_status refusal

@@ -35,8 +35,8 @@ said s (valued option value) = None
 said s (name word) = None
 
 -- what the items say of a switch, in their order
-abbrev pub said_by : Switch → List Item → List Bool
-said_by s items = flat_map (λ item. option_to_list (said s item)) items
+abbrev pub said_of_switch : Switch → List Item → List Bool
+said_of_switch s items = flat_map (λ item. option_to_list (said s item)) items
 
 -- the last of the values, or this one where there are none
 abbrev pub last_or : (first : Bool) → List Bool → Bool
@@ -44,7 +44,7 @@ last_or first values = fold (λ before now. now) first values
 
 -- A switch stands as the last item says that speaks of it. Where none does, it stands as at first.
 abbrev pub stands : Switch → (first : Bool) → List Item → Bool
-stands s first items = last_or first (said_by s items)
+stands s first items = last_or first (said_of_switch s items)
 
 -- ---- values
 
@@ -67,8 +67,8 @@ abbrev pub values_added : Added → List Item → List (List ℕ)
 values_added a items = flat_map (λ item. option_to_list (value_added a item)) items
 
 -- the patterns of both kinds, in the order of the words, which is the order in which they are checked
-abbrev pub patterns_in : List Item → List (List ℕ)
-patterns_in items = values_added added.Pattern items
+abbrev pub patterns_asked : List Item → List (List ℕ)
+patterns_asked items = values_added added.Pattern items
 
 -- ---- all of it
 
@@ -84,7 +84,7 @@ selection_from success hidden items = record {
   without_tags = values_added added.WithoutTag items;
   with_ids = values_added added.WithId items;
   without_ids = values_added added.WithoutId items;
-  patterns = patterns_in items;
+  patterns = patterns_asked items;
 }
 
 -- of `subunit-filter`: at first all but tests that passed are kept, and output of no test is passed on

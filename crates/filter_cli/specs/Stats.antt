@@ -6,7 +6,7 @@ use Rattle.outcome_fold.specs.Rows.{rows_of}
 use Rattle.outcome_fold.specs.Answers.{status_of}
 use Rattle.sub_text.specs.Listed.{stats_of}
 use Rattle.filter_cli.specs.Plan.{Plan}
-use Rattle.filter_cli.specs.Events.{events_in, passed_on, loose_bytes}
+use Rattle.filter_cli.specs.Events.{events_among, passed_on, loose_bytes}
 use Rattle.filter_cli.specs.declared.stats.Counting.{Counting}
 
 -- the output of no test that a note is: foreign bytes, or the loose file of the event
@@ -18,6 +18,6 @@ passed_at hidden (note.Event event) = passed_on hidden (loose_bytes event)
 abbrev pub stats_plan : Counting → Plan
 stats_plan counting = record {
   gives = λ before note. passed_at counting.hidden note;
-  at_end = λ notes. stats_of (rows_of (events_in notes));
-  status = λ notes. status_of (rows_of (events_in notes));
+  at_end = λ notes. stats_of (rows_of (events_among notes));
+  status = λ notes. status_of (rows_of (events_among notes));
 }

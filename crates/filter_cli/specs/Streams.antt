@@ -9,10 +9,10 @@ use Rattle.sub_export.specs.declared.job.Job.{Job}
 use Rattle.sub_export.specs.Output.{last_event}
 use Rattle.sub_export.specs.Records.{csv_head_text}
 use Rattle.partition_times.specs.Patterns.{IsPattern}
-use Rattle.filter_cli.specs.declared.asked.Asked.{Asked}
-use Rattle.filter_cli.specs.declared.asked.Request.{Request}
-use Rattle.filter_cli.specs.declared.asked.Asked.TheVariants.{Filter, Tags, Ls, Stats, FromTap, ToTap, ToCsv, ToJunit, Output, FromV1, ToV1, Tracing}
-use Rattle.filter_cli.specs.Attached.{IsOutputSeen, IsOutput}
+use Rattle.filter_cli.specs.declared.request.Asked.{Asked}
+use Rattle.filter_cli.specs.declared.request.Request.{Request}
+use Rattle.filter_cli.specs.declared.request.Asked.TheVariants.{Filter, Tags, Ls, Stats, FromTap, ToTap, ToCsv, ToJunit, Output, FromV1, ToV1, Tracing}
+use Rattle.filter_cli.specs.Attached.{IsOutputSeen, IsAttachedOutput}
 use Rattle.filter_cli.specs.Exporting.{csv_plan}
 use Rattle.filter_cli.specs.Headed.{IsSeenBelow, IsWholeBelow}
 use Rattle.filter_cli.specs.Plan.{Plan, IsSeen, IsFiltered}
@@ -27,8 +27,8 @@ use Rattle.filter_cli.specs.Tap.{IsTapSeen, IsTapFiltered}
 use Rattle.filter_cli.specs.TapRows.{tap_plan}
 use Rattle.filter_cli.specs.V1.{IsV1Seen, IsV1Filtered}
 use Rattle.filter_cli.specs.V1Parts.{v1_plan}
-use Rattle.filter_cli.specs.Patterns.{rules_of, IsFirstBadText}
-use Rattle.filter_cli.specs.Words.{request_of, asked_of}
+use Rattle.filter_cli.specs.Patterns.{rules_of_selection, IsFirstBadText}
+use Rattle.filter_cli.specs.Words.{request_of, asked_by_words}
 
 -- what a filter writes, by what its input is cut into: notes, lines, notes below a text, or pieces of a job's file
 pub data Writing : Type 0 where
@@ -40,13 +40,13 @@ pub data Writing : Type 0 where
 
 -- what each filter writes, by what its words ask for
 abbrev pub writing_of : Asked → Writing
-writing_of (Filter selection) = of_notes (filter_plan (rules_of selection) selection.hidden)
+writing_of (Filter selection) = of_notes (filter_plan (rules_of_selection selection) selection.hidden)
 writing_of (Tags retagging) = of_notes (tags_plan_of retagging.add retagging.remove)
 writing_of (Ls listing) = of_notes (ls_plan listing)
 writing_of (Stats counting) = of_notes (stats_plan counting)
 writing_of FromTap = of_tap_lines
 writing_of ToTap = of_notes tap_plan
-writing_of (ToCsv selection) = below_head csv_head_text (csv_plan (keeps (rules_of selection)))
+writing_of (ToCsv selection) = below_head csv_head_text (csv_plan (keeps (rules_of_selection selection)))
 writing_of ToJunit = of_notes junit_plan
 writing_of (Output job) = of_job job
 writing_of FromV1 = of_v1_lines
@@ -67,7 +67,7 @@ ends_by (of_notes plan) = IsFiltered plan
 ends_by of_tap_lines = IsTapFiltered
 ends_by of_v1_lines = IsV1Filtered
 ends_by (below_head head plan) = IsWholeBelow head (IsFiltered plan)
-ends_by (of_job job) = IsOutput job
+ends_by (of_job job) = IsAttachedOutput job
 
 -- whether a whole stream ends inside a packet: only notes are read from packets
 abbrev pub inside_by : Writing → List ℕ → Bool
@@ -127,13 +127,13 @@ text_unread words = option_and_then (λ (r : Request). unread_with r.file r.aske
 
 -- the words ask for this filter, and its patterns are good
 pub record AsksFor (words : List (List ℕ)) (asked : Asked) : Type 0 where
-  pub named : asked_of words ≡ Some asked
+  pub named : asked_by_words words ≡ Some asked
   pub good : All IsPattern (patterns_of asked)
 
 -- the words ask for a filter, and this is the first of its patterns that is bad
 pub record HasBadPattern (words : List (List ℕ)) : Type 0 where
   pub asked : Asked
-  pub named : asked_of words ≡ Some asked
+  pub named : asked_by_words words ≡ Some asked
   pub text : List ℕ
   pub bad : IsFirstBadText (patterns_of asked) text
 
@@ -144,7 +144,7 @@ inside_asked (Some asked) bytes = inside_by (writing_of asked) bytes
 
 -- the same for these words
 abbrev pub is_inside_for : List (List ℕ) → List ℕ → Bool
-is_inside_for words = inside_asked (asked_of words)
+is_inside_for words = inside_asked (asked_by_words words)
 
 -- the text that the first bytes of a stream decide for these words, whatever follows
 pub record IsSeenBy (words : List (List ℕ)) (bytes text : List ℕ) : Type 0 where

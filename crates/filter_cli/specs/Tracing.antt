@@ -14,9 +14,9 @@ use Rattle.live_text.specs.Live.{live_rows, live_end, rows_done}
 use Rattle.live_text.specs.Totals.{sum_of, totals_text}
 use Rattle.live_text.specs.declared.live.Live.{Live}
 use Rattle.live_text.specs.declared.live.Live.TheVariants as live
-use Rattle.filter_cli.specs.declared.tracing.Trace.{Trace}
+use Rattle.filter_cli.specs.declared.live_trace.Trace.{Trace}
 use Rattle.filter_cli.specs.Plan.{Plan}
-use Rattle.filter_cli.specs.Events.{events_in}
+use Rattle.filter_cli.specs.Events.{events_among}
 use Rattle.filter_cli.specs.TapRows.{tap_rows}
 
 -- Words.
@@ -63,7 +63,7 @@ status_of_counts all = if nat_lt 0 all.failed || all.total == 0 then 1 else 0
 -- at the end the lines of the tests that are left open, by route and id, and the totals, where they are asked for
 abbrev pub trace_plan : Trace → Plan
 trace_plan trace = record {
-  gives = λ before note. trace_line trace.kind (events_in before) note;
-  at_end = λ notes. live_end trace.kind (length (rows_done (events_in notes))) (open_rows (events_in notes)) ++ (if trace.totals then totals_text (tap_rows (events_in notes)) else []);
-  status = λ notes. status_of_counts (sum_of (tap_rows (events_in notes)));
+  gives = λ before note. trace_line trace.kind (events_among before) note;
+  at_end = λ notes. live_end trace.kind (length (rows_done (events_among notes))) (open_rows (events_among notes)) ++ (if trace.totals then totals_text (tap_rows (events_among notes)) else []);
+  status = λ notes. status_of_counts (sum_of (tap_rows (events_among notes)));
 }

@@ -8,8 +8,9 @@ ghost use Rattle.event_sift.specs.declared.tagger.Tagger.{Tagger};
 ghost use Rattle.event_sift.specs.Keeping.{keeps};
 ghost use Rattle.event_sift.specs.Released.{filtered};
 ghost use Rattle.event_sift.specs.Tagging.{tagged};
+ghost use Rattle.packet_codec.specs.Canonical.{packets_of};
 ghost use Rattle.filter_cli.specs.Script.{given_by};
-ghost use Rattle.filter_cli.specs.Events.{events_heard, packets_of};
+ghost use Rattle.filter_cli.specs.Events.{events_heard};
 ghost use Rattle.filter_cli.specs.Filtering.{filter_plan};
 ghost use Rattle.filter_cli.specs.Tagging.{tags_plan};
 

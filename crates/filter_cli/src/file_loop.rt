@@ -3,7 +3,7 @@
 ghost use Rattle.std.specs.Prelude.{◌≡◌, ℕ, List, [], IfOk, IfErr};
 ghost use Rattle.std.specs.Io.{ReadsAtMost};
 ghost use Rattle.edge_io.specs.Seen.{Seen};
-ghost use Rattle.filter_cli.specs.FileReads.{ReadsOn, HasReadCause, FeedsFile};
+ghost use Rattle.filter_cli.specs.FileReads.{ReadsFileOn, HasReadCause, FeedsFile};
 ghost use Rattle.filter_cli.specs.Outside.{reach};
 ghost use Rattle.filter_cli.specs.declared.file_loop.FileFault.TheVariants.{NoMemory};
 
@@ -42,7 +42,7 @@ fn read_on<S: Site>(
     buf: &mut [u8],
 ) -> Result<usize, FileFault>
     ensures bound { ReadsAtMost result buf.new }
-    ensures read { IfOk result (λ count. ReadsOn name.now place (S.seen site.old).told (S.seen site.new).told buf.new count) }
+    ensures read { IfOk result (λ count. ReadsFileOn name.now place (S.seen site.old).told (S.seen site.new).told buf.new count) }
     ensures count { IfOk result (λ count. (S.seen site.new).faults ≡ (S.seen site.old).faults) }
     ensures files { (S.seen site.new).told ≡ (S.seen site.old).told }
     ensures refused { IfErr result (HasReadCause name.now (S.seen site.old) (S.seen site.new)) }

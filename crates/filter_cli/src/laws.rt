@@ -4,11 +4,11 @@ ghost use Rattle.std.specs.Prelude.{◌≡◌, ◌++◌, ◌≤◌, ℕ, List};
 ghost use Rattle.packet_codec.specs.Grammar.{AreBytes};
 ghost use Rattle.stream_reader.specs.declared.note.Note.{Note};
 ghost use Rattle.tap_bridge.specs.Texts.{tap_text};
-ghost use Rattle.filter_cli.specs.declared.asked.Asked.{Asked as AnAsked};
+ghost use Rattle.filter_cli.specs.declared.request.Asked.{Asked as AnAsked};
 ghost use Rattle.filter_cli.specs.Script.{given_by};
 ghost use Rattle.filter_cli.specs.declared.ls.Listing.{Listing};
 ghost use Rattle.filter_cli.specs.declared.stats.Counting.{Counting};
-ghost use Rattle.filter_cli.specs.Events.{as_events, events_in};
+ghost use Rattle.filter_cli.specs.Events.{as_events, events_among};
 ghost use Rattle.filter_cli.specs.Ls.{ls_plan};
 ghost use Rattle.filter_cli.specs.Stats.{stats_plan};
 ghost use Rattle.v1_bridge.specs.Writing.{v1_text};
@@ -34,7 +34,7 @@ pub fn filtered_streams()
 pub fn lines_of_streams()
     // The first is that of the stream's tests, the lines in the order in which they complete, those left open behind them, and
     // the plan.
-    ensures lines { (notes : List Note) → given_by tap_plan notes ++ tap_plan.at_end notes ≡ tap_text (tap_rows (events_in notes)) }
+    ensures lines { (notes : List Note) → given_by tap_plan notes ++ tap_plan.at_end notes ≡ tap_text (tap_rows (events_among notes)) }
     // The second is that of the stream's notes.
     ensures version_one { (notes : List Note) → given_by v1_plan notes ++ v1_plan.at_end notes ≡ v1_text notes }
 {}

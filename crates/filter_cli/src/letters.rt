@@ -4,19 +4,19 @@ ghost use Rattle.std.specs.Prelude.{◌≡◌, IfOk};
 ghost use Rattle.command_words.specs.Items.{texts};
 ghost use Rattle.filter_cli.specs.Letters as letters;
 
-use crate::tool::is_addition;
+use crate::tool::is_value_option;
 use std::alloc::Global;
 use sub_number::NoMemory;
 
 /// The words with long options in place of those of one letter. Values stay as they are.
-pub(crate) fn long_words(alloc: Global, words: &[String]) -> Result<Vec<String>, NoMemory>
-    ensures { IfOk result (λ longer. texts longer.items ≡ letters.long_words (texts words.now)) }
+pub(crate) fn spelled_out_words(alloc: Global, words: &[String]) -> Result<Vec<String>, NoMemory>
+    ensures { IfOk result (λ longer. texts longer.items ≡ letters.all_spelled_out (texts words.now)) }
 {
     let mut longer = Vec::new(alloc);
     let mut value = false;
     for word in words {
         let next = next_word(alloc, value, word.as_str())?;
-        value = !value && is_addition(next.as_str());
+        value = !value && is_value_option(next.as_str());
         longer.push(next)?;
     }
     Ok(longer)
@@ -24,7 +24,7 @@ pub(crate) fn long_words(alloc: Global, words: &[String]) -> Result<Vec<String>,
 
 // The word that stands for this one, which may be a value.
 fn next_word(alloc: Global, value: bool, word: &str) -> Result<String, NoMemory>
-    ensures { IfOk result (λ next. next.bytes.items ≡ letters.next_word value word.now) }
+    ensures { IfOk result (λ next. next.bytes.items ≡ letters.spelled_out_next value word.now) }
 {
     if value {
         return Ok(String::from_str(alloc, word)?);
@@ -34,7 +34,7 @@ fn next_word(alloc: Global, value: bool, word: &str) -> Result<String, NoMemory>
 
 // The word that stands for this one, which is no value.
 fn long_word(alloc: Global, word: &str) -> Result<String, NoMemory>
-    ensures { IfOk result (λ long. long.bytes.items ≡ letters.long_word word.now) }
+    ensures { IfOk result (λ long. long.bytes.items ≡ letters.spelled_out word.now) }
 {
     if word == "-s" {
         return Ok(String::from_str(alloc, "--success")?);

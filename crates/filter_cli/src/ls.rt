@@ -6,7 +6,7 @@ ghost use Rattle.std.specs.Option.{option_to_list};
 ghost use Rattle.outcome_fold.specs.Answers.{row_fails};
 ghost use Rattle.filter_cli.specs.Ls.{shown_line};
 
-use crate::loose::{put_foreign, put_loose};
+use crate::loose_output::{put_foreign, put_loose};
 use crate::notes::NoteFilter;
 use outcome_fold::{Ended, Fold, Row};
 use packet_codec::Packet;
@@ -55,12 +55,12 @@ impl Ls {
 impl NoteFilter for Ls {
     ghost use Rattle.outcome_fold.specs.Folded.{HasSeen};
     ghost use Rattle.outcome_fold.specs.Rows.{completed_rows};
-    ghost use Rattle.filter_cli.specs.Events.{events_in};
+    ghost use Rattle.filter_cli.specs.Events.{events_among};
     ghost use Rattle.filter_cli.specs.Ls.{ls_plan};
 
     ghost plan = { λ f. ls_plan f.listing };
 
-    ghost has = { λ f notes. HasSeen f.fold (events_in notes) × (f.failed ≡ list_any row_fails (completed_rows (events_in notes))) };
+    ghost has = { λ f notes. HasSeen f.fold (events_among notes) × (f.failed ≡ list_any row_fails (completed_rows (events_among notes))) };
 
     #[inline(always)]
     fn take(&mut self, packet: &Packet<'_>, text: &mut Vec<u8>) -> Result<(), NoMemory> {

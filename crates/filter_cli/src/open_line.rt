@@ -1,10 +1,10 @@
 // The line whose end is not there yet.
 ghost use Rattle.std.specs.Prelude.{◌≡◌, ◌<◌, ◌≤◌, ◌+◌, ◌++◌, [], true, false, length, map, OnOk, IsTrue, ◌↔◌};
 ghost use Rattle.stream_reader.specs.Notes.{stdout_event as event_of_output};
-ghost use Rattle.tap_bridge.specs.Events.{longest_line};
+ghost use Rattle.tap_bridge.specs.Events.{longest_tap_line};
+ghost use Rattle.edge_io.specs.Limits.{most_at_once};
+ghost use Rattle.packet_codec.specs.Canonical.{packets_of};
 ghost use Rattle.filter_cli.specs.Lines.{last_line};
-ghost use Rattle.filter_cli.specs.Pumping.{most_at_once};
-ghost use Rattle.filter_cli.specs.Events.{packets_of};
 ghost use Rattle.filter_cli.specs.Tapped.{most_open, IsAdded};
 
 use crate::packets::put_output;
@@ -100,7 +100,7 @@ impl OpenLine {
 
     /// It has ended, and gave pieces: appends what is left of it.
     pub(crate) fn give_rest(&mut self, text: &mut Vec<u8>) -> Result<(), NoMemory>
-        requires { length self.old.held.items ≤ longest_line }
+        requires { length self.old.held.items ≤ longest_tap_line }
         ensures text { OnOk result (text.new.items ≡ text.old.items ++ packets_of (map event_of_output (last_line self.old.held.items))) }
         ensures held { OnOk result (self.new.held.items ≡ []) }
         ensures long { OnOk result (self.new.long ≡ false) }

@@ -1,9 +1,8 @@
 // Events as packets.
 ghost use Rattle.std.specs.Prelude.{◌≡◌, ◌++◌, ◌≤◌, length, All, OnOk};
-ghost use Rattle.packet_codec.specs.Canonical.{canonical, Fits};
+ghost use Rattle.packet_codec.specs.Canonical.{canonical, Fits, packets_of};
 ghost use Rattle.stream_reader.specs.Notes.{stdout_event as event_of_output};
-ghost use Rattle.tap_bridge.specs.Events.{longest_line};
-ghost use Rattle.filter_cli.specs.Events.{packets_of};
+ghost use Rattle.tap_bridge.specs.Events.{longest_tap_line};
 
 use packet_codec::{Event, encode};
 use stream_reader::stdout_event;
@@ -22,7 +21,7 @@ pub(crate) fn put_events(events: &[Event], text: &mut Vec<u8>) -> Result<(), NoM
 
 /// Appends the packet of the bytes as a piece of the file `stdout`.
 pub(crate) fn put_output(bytes: &[u8], text: &mut Vec<u8>) -> Result<(), NoMemory>
-    requires { length bytes.now ≤ longest_line }
+    requires { length bytes.now ≤ longest_tap_line }
     ensures { OnOk result (text.new.items ≡ text.old.items ++ canonical (event_of_output bytes.now)) }
 {
     let alloc = *text.allocator();

@@ -72,9 +72,9 @@ pub enum PatternsFault {
 /// The rules of the selection, its patterns compiled.
 ///
 /// `Bad` comes only with the first bad pattern in the order of the words.
-pub fn rules_of(alloc: Global, selection: Selection) -> Result<Rules, PatternsFault>
-    ensures rules { IfOk result (λ rules. rules ≡ checked.rules_of selection) }
-    ensures patterns { checked.Compiles selection.patterns result }
+pub fn compiled_rules(alloc: Global, selection: Selection) -> Result<Rules, PatternsFault>
+    ensures rules { IfOk result (λ rules. rules ≡ checked.rules_of_selection selection) }
+    ensures patterns { checked.CompilesPatterns selection.patterns result }
 {
     let Selection {
         success,
@@ -103,7 +103,7 @@ pub fn rules_of(alloc: Global, selection: Selection) -> Result<Rules, PatternsFa
 
 // Refuses the first bad pattern.
 fn check(alloc: Global, patterns: Patterns) -> Result<(), PatternsFault>
-    ensures { checked.Compiles patterns result }
+    ensures { checked.CompilesPatterns patterns result }
 {
     match Filters::new(alloc, patterns.list()) {
         Ok(_) => Ok(()),

@@ -1,14 +1,14 @@
 //! Why a filter was not done, or not done to its end.
 
 ghost use Rattle.std.specs.Prelude.{◌≡◌, ◌++◌};
-ghost use Rattle.filter_cli.specs.Patterns.{patterns_code, patterns_text};
-ghost use Rattle.filter_cli.specs.Refusals.{usage_line, pump_code, pump_text, file_code, file_text};
-ghost use Rattle.filter_cli.specs.Telling.{line_text};
+ghost use Rattle.filter_cli.specs.Patterns.{patterns_exit_status, patterns_text};
+ghost use Rattle.filter_cli.specs.Refusals.{usage_line, pump_exit_status, pump_text, file_exit_status, file_text};
+ghost use Rattle.filter_cli.specs.Telling.{filter_line_text};
 
 use crate::file_loop::FileFault;
-use crate::pass::PumpFault;
 use crate::patterns::PatternsFault;
-use crate::telling::Line;
+use crate::pump_loop::PumpFault;
+use crate::refusal_line::Line;
 use sub_number::{NoMemory, Text};
 
 /// Why words are no filter.
@@ -66,11 +66,11 @@ impl From<PumpFault> for Refusal {
 }
 
 impl Refusal {
-    ghost use Rattle.filter_cli.specs.Refusals.{refusal_code, refusal_line};
+    ghost use Rattle.filter_cli.specs.Refusals.{filter_refusal_exit_status, filter_refusal_line};
 
     /// The exit status: 2 for words, 3 for a named refusal, 4 for a fault of the outside, 5 for want of memory.
-    pub fn code(&self) -> u8
-        ensures { result ≡ refusal_code self.now }
+    pub fn exit_status(&self) -> u8
+        ensures { result ≡ filter_refusal_exit_status self.now }
     {
         match self {
             Refusal::Usage(_) => 2,
@@ -83,7 +83,7 @@ impl Refusal {
 
     /// The line that tells of it, for the filter of this name.
     pub fn line<'a>(&'a self, name: &'a str) -> Line<'a>
-        ensures { line_text result ≡ refusal_line name.now self.now }
+        ensures { filter_line_text result ≡ filter_refusal_line name.now self.now }
     {
         match self {
             Refusal::Usage(fault) => line_of_usage(name, *fault),
@@ -96,7 +96,7 @@ impl Refusal {
 }
 
 fn line_of_usage(name: &str, fault: UsageFault) -> Line<'_>
-    ensures { line_text result ≡ usage_line name.now fault }
+    ensures { filter_line_text result ≡ usage_line name.now fault }
 {
     match fault {
         UsageFault::Tool => Line::of("", "usage: testr COMMAND or a subunit filter\n"),
@@ -105,7 +105,7 @@ fn line_of_usage(name: &str, fault: UsageFault) -> Line<'_>
 }
 
 fn code_of_patterns(fault: &PatternsFault) -> u8
-    ensures { result ≡ patterns_code fault.now }
+    ensures { result ≡ patterns_exit_status fault.now }
 {
     match fault {
         PatternsFault::Bad(_) => 3,
@@ -114,7 +114,7 @@ fn code_of_patterns(fault: &PatternsFault) -> u8
 }
 
 fn line_of_patterns<'a>(name: &'a str, fault: &'a PatternsFault) -> Line<'a>
-    ensures { line_text result ≡ name.now ++ patterns_text fault.now }
+    ensures { filter_line_text result ≡ name.now ++ patterns_text fault.now }
 {
     match fault {
         PatternsFault::Bad(pattern) => Line {
@@ -128,7 +128,7 @@ fn line_of_patterns<'a>(name: &'a str, fault: &'a PatternsFault) -> Line<'a>
 }
 
 fn code_of_pump(fault: PumpFault) -> u8
-    ensures { result ≡ pump_code fault }
+    ensures { result ≡ pump_exit_status fault }
 {
     match fault {
         PumpFault::Input | PumpFault::Output => 4,
@@ -149,7 +149,7 @@ fn text_of_pump(fault: PumpFault) -> &'static str
 }
 
 fn code_of_file(fault: FileFault) -> u8
-    ensures { result ≡ file_code fault }
+    ensures { result ≡ file_exit_status fault }
 {
     match fault {
         FileFault::Read | FileFault::Output => 4,
@@ -159,7 +159,7 @@ fn code_of_file(fault: FileFault) -> u8
 }
 
 fn line_of_file<'a>(name: &'a str, file: &'a Text, fault: FileFault) -> Line<'a>
-    ensures { line_text result ≡ name.now ++ file_text file.now fault }
+    ensures { filter_line_text result ≡ name.now ++ file_text file.now fault }
 {
     match fault {
         FileFault::Read => Line::of(name, ": fault reading a file\n"),

@@ -1,7 +1,7 @@
 //! What `subunit-filter` is asked to let through, and `subunit2csv` to export.
 
 ghost use Rattle.std.specs.Prelude.{◌≡◌, map, option_map, IfOk};
-ghost use Rattle.command_words.specs.Code.{shown};
+ghost use Rattle.command_words.specs.Code.{item_meant};
 ghost use Rattle.filter_cli.specs.Selecting as selecting;
 
 use crate::patterns::Patterns;
@@ -58,14 +58,14 @@ enum Added {
 /// What the options of `subunit-filter` ask for. Of flags that set the same the last one stands; the values of the others
 /// are added.
 pub fn selection_of(alloc: Global, items: &[Item<'_>]) -> Result<Selection, NoMemory>
-    ensures { IfOk result (λ selection. selection ≡ selecting.selection_of (map shown items.now)) }
+    ensures { IfOk result (λ selection. selection ≡ selecting.selection_of (map item_meant items.now)) }
 {
     selection_from(alloc, false, false, items)
 }
 
 /// What the options of `subunit2csv` ask for, in the same way.
 pub fn csv_selection_of(alloc: Global, items: &[Item<'_>]) -> Result<Selection, NoMemory>
-    ensures { IfOk result (λ selection. selection ≡ selecting.csv_selection_of (map shown items.now)) }
+    ensures { IfOk result (λ selection. selection ≡ selecting.csv_selection_of (map item_meant items.now)) }
 {
     selection_from(alloc, true, true, items)
 }
@@ -77,7 +77,7 @@ fn selection_from(
     hidden: bool,
     items: &[Item<'_>],
 ) -> Result<Selection, NoMemory>
-    ensures { IfOk result (λ selection. selection ≡ selecting.selection_from success hidden (map shown items.now)) }
+    ensures { IfOk result (λ selection. selection ≡ selecting.selection_from success hidden (map item_meant items.now)) }
 {
     Ok(Selection {
         success: stands(Switch::Success, success, items),
@@ -95,7 +95,7 @@ fn selection_from(
 
 // How the switch stands behind the items: as the last of them says that speaks of it, or as at first.
 fn stands(switch: Switch, first: bool, items: &[Item<'_>]) -> bool
-    ensures { result ≡ selecting.stands switch first (map shown items.now) }
+    ensures { result ≡ selecting.stands switch first (map item_meant items.now) }
 {
     let mut stands = first;
     for item in items {
@@ -106,7 +106,7 @@ fn stands(switch: Switch, first: bool, items: &[Item<'_>]) -> bool
 
 // How the item sets the switch. None where it speaks of another one, or of none.
 fn said(switch: Switch, item: &Item<'_>) -> Option<bool>
-    ensures { result ≡ selecting.said switch (shown item.now) }
+    ensures { result ≡ selecting.said switch (item_meant item.now) }
 {
     match item {
         Item::Flag(flag) => says(switch, flag),
@@ -147,7 +147,7 @@ fn is_or_genuine(flag: &str, key: &str) -> bool
 
 // The value of the item, where it is an option that adds to this.
 fn value_added<'a>(added: Added, item: &Item<'a>) -> Option<&'a str>
-    ensures { option_map (λ value. value.now) result ≡ selecting.value_added added (shown item.now) }
+    ensures { option_map (λ value. value.now) result ≡ selecting.value_added added (item_meant item.now) }
 {
     match item {
         Item::Valued(name, value) if adds_to(added, name) => Some(value),
@@ -178,7 +178,7 @@ pub(crate) fn word_text(alloc: Global, word: &str) -> Result<Text, NoMemory>
 }
 
 fn tags_in(alloc: Global, added: Added, items: &[Item<'_>]) -> Result<Tags, NoMemory>
-    ensures { IfOk result (λ tags. tags ≡ selecting.values_added added (map shown items.now)) }
+    ensures { IfOk result (λ tags. tags ≡ selecting.values_added added (map item_meant items.now)) }
 {
     let mut tags = Tags::new(alloc);
     for item in items {
@@ -190,7 +190,7 @@ fn tags_in(alloc: Global, added: Added, items: &[Item<'_>]) -> Result<Tags, NoMe
 }
 
 fn ids_in(alloc: Global, added: Added, items: &[Item<'_>]) -> Result<IdList, NoMemory>
-    ensures { IfOk result (λ ids. ids ≡ selecting.values_added added (map shown items.now)) }
+    ensures { IfOk result (λ ids. ids ≡ selecting.values_added added (map item_meant items.now)) }
 {
     let mut ids = IdList::new(alloc);
     for item in items {
@@ -202,7 +202,7 @@ fn ids_in(alloc: Global, added: Added, items: &[Item<'_>]) -> Result<IdList, NoM
 }
 
 fn patterns_in(alloc: Global, items: &[Item<'_>]) -> Result<Patterns, NoMemory>
-    ensures { IfOk result (λ patterns. patterns ≡ selecting.patterns_in (map shown items.now)) }
+    ensures { IfOk result (λ patterns. patterns ≡ selecting.patterns_asked (map item_meant items.now)) }
 {
     let mut patterns = Patterns::new(alloc);
     for item in items {

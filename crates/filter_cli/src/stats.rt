@@ -5,7 +5,7 @@ ghost use Rattle.std.specs.Option.{option_to_list};
 ghost use Rattle.outcome_fold.specs.declared.row.Row.{Row as ARow};
 ghost use Rattle.filter_cli.specs.Tally.{HasTallied};
 
-use crate::loose::{put_foreign, put_loose};
+use crate::loose_output::{put_foreign, put_loose};
 use crate::notes::NoteFilter;
 use crate::tally::Tally;
 use outcome_fold::{Fold, Row};
@@ -53,12 +53,12 @@ impl Stats {
 impl NoteFilter for Stats {
     ghost use Rattle.outcome_fold.specs.Folded.{HasSeen};
     ghost use Rattle.outcome_fold.specs.Rows.{completed_rows};
-    ghost use Rattle.filter_cli.specs.Events.{events_in};
+    ghost use Rattle.filter_cli.specs.Events.{events_among};
     ghost use Rattle.filter_cli.specs.Stats.{stats_plan};
 
     ghost plan = { λ f. stats_plan f.counting };
 
-    ghost has = { λ f notes. HasSeen f.fold (events_in notes) × HasTallied f.tally (completed_rows (events_in notes)) };
+    ghost has = { λ f notes. HasSeen f.fold (events_among notes) × HasTallied f.tally (completed_rows (events_among notes)) };
 
     #[inline(always)]
     fn take(&mut self, packet: &Packet<'_>, text: &mut Vec<u8>) -> Result<(), NoMemory> {

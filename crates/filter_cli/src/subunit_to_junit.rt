@@ -47,12 +47,12 @@ impl SubunitToJunit {
 impl NoteFilter for SubunitToJunit {
     ghost use Rattle.outcome_fold.specs.Folded.{HasSeen};
     ghost use Rattle.outcome_fold.specs.Rows.{completed_rows};
-    ghost use Rattle.filter_cli.specs.Events.{events_in};
+    ghost use Rattle.filter_cli.specs.Events.{events_among};
     ghost use Rattle.filter_cli.specs.Junit.{junit_plan};
 
     ghost plan = { λ f. junit_plan };
 
-    ghost has = { λ f notes. HasSeen f.fold (events_in notes) × (HasCases f.cases (completed_rows (events_in notes)) × (f.failed ≡ list_any row_fails (completed_rows (events_in notes)))) };
+    ghost has = { λ f notes. HasSeen f.fold (events_among notes) × (HasCases f.cases (completed_rows (events_among notes)) × (f.failed ≡ list_any row_fails (completed_rows (events_among notes)))) };
 
     #[inline(always)]
     fn take(&mut self, packet: &Packet<'_>, _text: &mut Vec<u8>) -> Result<(), NoMemory> {

@@ -4,7 +4,7 @@ ghost use Rattle.std.specs.Prelude.{◌≡◌, ◌++◌, List, OnOk};
 ghost use Rattle.std.specs.List.{flat_map};
 ghost use Rattle.std.specs.Option.{option_to_list};
 ghost use Rattle.outcome_fold.specs.declared.row.Row.{Row as ARow};
-ghost use Rattle.tap_bridge.specs.Texts.{HasWritten, text_at, text_behind};
+ghost use Rattle.tap_bridge.specs.Texts.{HasWrittenRows, tap_text_at, tap_text_behind};
 
 use crate::ls::{any_failed, failed_after};
 use crate::notes::NoteFilter;
@@ -31,7 +31,7 @@ impl SubunitToTap {
     /// The lines of nothing yet.
     pub(crate) fn new(alloc: Global) -> Self
         ensures fold { HasSeen result.fold [] }
-        ensures writer { HasWritten result.writer [] }
+        ensures writer { HasWrittenRows result.writer [] }
         ensures failed { result.failed ≡ false }
     {
         SubunitToTap {
@@ -47,12 +47,12 @@ impl NoteFilter for SubunitToTap {
     ghost use Rattle.outcome_fold.specs.Answers.{row_fails};
     ghost use Rattle.outcome_fold.specs.Folded.{HasSeen};
     ghost use Rattle.outcome_fold.specs.Rows.{completed_rows};
-    ghost use Rattle.filter_cli.specs.Events.{events_in};
+    ghost use Rattle.filter_cli.specs.Events.{events_among};
     ghost use Rattle.filter_cli.specs.TapRows.{tap_plan};
 
     ghost plan = { λ f. tap_plan };
 
-    ghost has = { λ f notes. HasSeen f.fold (events_in notes) × HasWritten f.writer (completed_rows (events_in notes)) × (f.failed ≡ list_any row_fails (completed_rows (events_in notes))) };
+    ghost has = { λ f notes. HasSeen f.fold (events_among notes) × HasWrittenRows f.writer (completed_rows (events_among notes)) × (f.failed ≡ list_any row_fails (completed_rows (events_among notes))) };
 
     fn take(&mut self, packet: &Packet<'_>, text: &mut Vec<u8>) -> Result<(), NoMemory> {
         let row = self.fold.hear(packet)?;
@@ -79,8 +79,8 @@ impl NoteFilter for SubunitToTap {
 
 // Appends the line of the row, where there is one.
 fn put_row(writer: &mut TapWriter, row: &Option<Row>, text: &mut Vec<u8>) -> Result<(), NoMemory>
-    ensures text { (rows : List ARow) → HasWritten writer.old rows → OnOk result (text.new.items ≡ text.old.items ++ flat_map (text_at rows) (option_to_list row.now)) }
-    ensures written { (rows : List ARow) → HasWritten writer.old rows → OnOk result (HasWritten writer.new (rows ++ option_to_list row.now)) }
+    ensures text { (rows : List ARow) → HasWrittenRows writer.old rows → OnOk result (text.new.items ≡ text.old.items ++ flat_map (tap_text_at rows) (option_to_list row.now)) }
+    ensures written { (rows : List ARow) → HasWrittenRows writer.old rows → OnOk result (HasWrittenRows writer.new (rows ++ option_to_list row.now)) }
 {
     let Some(row) = row else {
         return Ok(());
@@ -91,8 +91,8 @@ fn put_row(writer: &mut TapWriter, row: &Option<Row>, text: &mut Vec<u8>) -> Res
 
 // Appends the lines of the rows.
 fn put_rows(writer: &mut TapWriter, rows: &[Row], text: &mut Vec<u8>) -> Result<(), NoMemory>
-    ensures text { (before : List ARow) → HasWritten writer.old before → OnOk result (text.new.items ≡ text.old.items ++ text_behind before rows.now) }
-    ensures written { (before : List ARow) → HasWritten writer.old before → OnOk result (HasWritten writer.new (before ++ rows.now)) }
+    ensures text { (before : List ARow) → HasWrittenRows writer.old before → OnOk result (text.new.items ≡ text.old.items ++ tap_text_behind before rows.now) }
+    ensures written { (before : List ARow) → HasWrittenRows writer.old before → OnOk result (HasWrittenRows writer.new (before ++ rows.now)) }
 {
     for row in rows {
         writer.row(row, text)?;

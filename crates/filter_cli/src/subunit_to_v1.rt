@@ -15,11 +15,11 @@ pub(crate) struct SubunitToV1 {
 
 impl SubunitToV1 {
     ghost use Rattle.std.specs.Prelude.{[]};
-    ghost use Rattle.v1_bridge.specs.Written.{HasWritten};
+    ghost use Rattle.v1_bridge.specs.Written.{HasWrittenNotes};
 
     /// The lines of nothing yet.
     pub(crate) fn new(alloc: Global) -> Self
-        ensures { HasWritten result.writer [] }
+        ensures { HasWrittenNotes result.writer [] }
     {
         SubunitToV1 {
             writer: V1Writer::new(alloc),
@@ -28,12 +28,12 @@ impl SubunitToV1 {
 }
 
 impl NoteFilter for SubunitToV1 {
-    ghost use Rattle.v1_bridge.specs.Written.{HasWritten};
+    ghost use Rattle.v1_bridge.specs.Written.{HasWrittenNotes};
     ghost use Rattle.filter_cli.specs.V1Parts.{v1_plan};
 
     ghost plan = { λ f. v1_plan };
 
-    ghost has = { λ f notes. HasWritten f.writer notes };
+    ghost has = { λ f notes. HasWrittenNotes f.writer notes };
 
     fn take(&mut self, packet: &Packet<'_>, text: &mut Vec<u8>) -> Result<(), NoMemory> {
         self.writer.hear(packet, text)?;

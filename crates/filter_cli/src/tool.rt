@@ -36,7 +36,7 @@ pub enum Tool {
 }
 
 /// The filter that the first word names, or none.
-pub fn tool_of(words: &[String]) -> Option<Tool>
+pub fn tool_of_first_word(words: &[String]) -> Option<Tool>
     ensures { result ≡ tools.tool_of (texts words.now) }
 {
     match words {
@@ -124,7 +124,7 @@ fn filter_kind(name: &str) -> Option<Kind>
     if is_switch(name) {
         return Some(Kind::Flag);
     }
-    if is_addition(name) {
+    if is_value_option(name) {
         return Some(Kind::Valued);
     }
     None
@@ -147,7 +147,7 @@ fn is_switch(name: &str) -> bool
 }
 
 // Whether it is an option with a value of `subunit-filter` and `subunit2csv`.
-pub(crate) fn is_addition(name: &str) -> bool
+pub(crate) fn is_value_option(name: &str) -> bool
     ensures { result ≡ tools.is_addition name.now }
 {
     name == "--with-tag" || name == "--without-tag" || name == "--with-id" || name == "--without-id"
@@ -168,7 +168,7 @@ fn csv_kind(name: &str) -> Option<Kind>
     if is_csv_switch(name) {
         return Some(Kind::Flag);
     }
-    if is_addition(name) {
+    if is_value_option(name) {
         return Some(Kind::Valued);
     }
     None

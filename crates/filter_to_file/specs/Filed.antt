@@ -4,39 +4,39 @@ use Rattle.edge_io.specs.Causes.{Rose}
 use Rattle.edge_io.specs.Disk.{Files}
 use Rattle.edge_io.specs.Seen.{Seen}
 use Rattle.filter_cli.specs.Outside as plain
-use Rattle.filter_cli.specs.Program.{Tells}
-use Rattle.filter_cli.specs.Promises.{Promises}
-use Rattle.filter_cli.specs.Refusals.{name_in, pump_text}
+use Rattle.filter_cli.specs.Program.{FilterTells}
+use Rattle.filter_cli.specs.Promises.{FilterPromises}
+use Rattle.filter_cli.specs.Refusals.{filter_name_in, pump_text}
 use Rattle.filter_cli.specs.declared.refusal.Refusal.{Refusal}
 use Rattle.filter_cli.specs.declared.refusal.Refusal.TheVariants.{Pump}
-use Rattle.filter_cli.specs.declared.pass.PumpFault.TheVariants as pump_fault
+use Rattle.filter_cli.specs.declared.pump_loop.PumpFault.TheVariants as pump_fault
 use Rattle.new_files.specs.Naming.{IsEmptyDraft, TakesName}
 
 -- the outside at one moment, with files in the place of the output
-pub record Outside : Type 0 where
+pub record FileOutside : Type 0 where
   pub site : Seen Files
   pub input : Seen (List ℕ)
   pub files : Seen Files
   pub errors : Seen (List ℕ)
 
 -- the outside of which these four parts are seen
-abbrev pub outside : Seen Files → Seen (List ℕ) → Seen Files → Seen (List ℕ) → Outside
-outside site input files errors = record { site = site; input = input; files = files; errors = errors }
+abbrev pub file_outside : Seen Files → Seen (List ℕ) → Seen Files → Seen (List ℕ) → FileOutside
+file_outside site input files errors = record { site = site; input = input; files = files; errors = errors }
 
 -- what stands behind the filter's name where the output failed
-abbrev pub fault_text : List ℕ
-fault_text = pump_text pump_fault.Output
+abbrev pub output_fault_text : List ℕ
+output_fault_text = pump_text pump_fault.Output
 
 -- that the output failed is told, and is the status
 abbrev pub TellsFault : List (List ℕ) → Seen (List ℕ) → Seen (List ℕ) → ℕ → Type 0
-TellsFault words = Tells (name_in words) (Err (Pump pump_fault.Output))
+TellsFault words = FilterTells (filter_name_in words) (Err (Pump pump_fault.Output))
 
 -- each name holds what it did
 abbrev pub HoldsSame : Seen Files → Seen Files → Type 0
 HoldsSame before after = after.told ≡ before.told
 
 -- no file could be begun: nothing was read, and each name holds what it did
-pub record IsNotBegun (words : List (List ℕ)) (before after : Outside) (answer : ℕ) : Type 0 where
+pub record IsNotBegun (words : List (List ℕ)) (before after : FileOutside) (answer : ℕ) : Type 0 where
   pub site : after.site ≡ before.site
   pub input : after.input ≡ before.input
   pub files : HoldsSame before.files after.files
@@ -74,7 +74,7 @@ Finishes words name status written before after told now answer =
     ⊎ IsGivenUp status before after told now answer)
 
 -- A draft was begun, the filter wrote into it what it writes to any output, and then it took its name or was given up.
-pub record IsBegun (words : List (List ℕ)) (name : List ℕ) (before after : Outside) (answer : ℕ) : Type 0 where
+pub record IsBegun (words : List (List ℕ)) (name : List ℕ) (before after : FileOutside) (answer : ℕ) : Type 0 where
   -- the draft, before the filter and behind it, and what was told by then
   pub draft : Seen (List ℕ)
   pub written : Seen (List ℕ)
@@ -83,9 +83,9 @@ pub record IsBegun (words : List (List ℕ)) (name : List ℕ) (before after : O
   pub status : ℕ
   pub empty : IsEmptyDraft draft.told
   pub stays : HoldsSame before.files begun
-  pub filtered : Promises words (plain.outside before.site before.input draft before.errors) (plain.outside after.site after.input written told) status
+  pub filtered : FilterPromises words (plain.filter_outside before.site before.input draft before.errors) (plain.filter_outside after.site after.input written told) status
   pub finished : Finishes words name status written begun after.files told after.errors answer
 
 -- one of the two
-abbrev pub FilesOutput : (words : List (List ℕ)) (name : List ℕ) (before after : Outside) (answer : ℕ) → Type 0
+abbrev pub FilesOutput : (words : List (List ℕ)) (name : List ℕ) (before after : FileOutside) (answer : ℕ) → Type 0
 FilesOutput words name before after answer = IsNotBegun words before after answer ⊎ IsBegun words name before after answer

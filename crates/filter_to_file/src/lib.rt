@@ -1,10 +1,10 @@
 //! A filter whose output becomes a file, which takes its name at the end: whole, or not at all.
 //!
-//! - `filing`: the filter into a draft, and what becomes of that
+//! - `output_draft`: the filter into a draft, and what becomes of that
 //!
 //! Its tests stand in a room above it, `filter_trials`.
 #![tactic(auto)]
 
-mod filing;
+mod output_draft;
 
-pub use filing::filters_to_file;
+pub use output_draft::filters_to_file;

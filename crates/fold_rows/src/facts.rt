@@ -4,8 +4,8 @@ use crate::events::{events_of, tags_of, text_of};
 use crate::fields::first_word;
 use crate::folds::rows_by;
 use crate::results::{put_line, put_nanos, put_number, put_rows, put_texts};
-use outcome_fold::{Counts, Rows, Summary, Summing, TextSet};
-use packet_codec::{Event, Sight, see};
+use outcome_fold::{Counts, RowSums, Rows, Summary, TextSet};
+use packet_codec::{Event, Sight, see_front};
 use row_book::put_all;
 use std::alloc::Global;
 use sub_number::{IdList, Text, TimeMap};
@@ -82,15 +82,15 @@ pub fn answer_facts(alloc: Global, facts: &str, lines: &[&str], out: &mut Vec<u8
 
 // ---- the same where the run is summed up as it is heard
 
-fn hear(alloc: Global, summing: &mut Summing, event: &Event) -> Option<()> {
+fn hear(alloc: Global, summing: &mut RowSums, event: &Event) -> Option<()> {
     let bytes = spelled(alloc, event)?;
-    match see(&bytes) {
+    match see_front(&bytes) {
         Sight::Packet(packet) => summing.hear(&packet).ok(),
         _ => None,
     }
 }
 
-fn hear_all(alloc: Global, summing: &mut Summing, events: &[Event]) -> Option<()> {
+fn hear_all(alloc: Global, summing: &mut RowSums, events: &[Event]) -> Option<()> {
     for event in events {
         hear(alloc, summing, event)?;
     }
@@ -98,7 +98,7 @@ fn hear_all(alloc: Global, summing: &mut Summing, events: &[Event]) -> Option<()
 }
 
 fn summary_of(alloc: Global, filter: &str, events: &[Event]) -> Option<Summary> {
-    let mut summing = Summing::new(alloc, tags_of(alloc, filter)?);
+    let mut summing = RowSums::new(alloc, tags_of(alloc, filter)?);
     hear_all(alloc, &mut summing, events)?;
     summing.close().ok()
 }

@@ -5,7 +5,7 @@ use crate::events::events_of;
 use crate::results::{put_row, put_rows};
 use itoa::Buffer;
 use outcome_fold::{Fold, Outcomes, Row, Rows};
-use packet_codec::{Event, Sight, see};
+use packet_codec::{Event, Sight, see_front};
 use row_book::put_all;
 use std::alloc::Global;
 use trial_events::spelled;
@@ -19,7 +19,7 @@ fn row_at(alloc: Global, by_packet: bool, fold: &mut Fold, event: &Event) -> Opt
         return fold.add(event).ok();
     }
     let bytes = spelled(alloc, event)?;
-    match see(&bytes) {
+    match see_front(&bytes) {
         Sight::Packet(packet) => fold.hear(&packet).ok(),
         _ => None,
     }
@@ -70,7 +70,7 @@ fn take(alloc: Global, by_packet: bool, outcomes: &mut Outcomes, event: &Event) 
         return outcomes.add(event).ok();
     }
     let bytes = spelled(alloc, event)?;
-    match see(&bytes) {
+    match see_front(&bytes) {
         Sight::Packet(packet) => outcomes.hear(&packet).ok(),
         _ => None,
     }

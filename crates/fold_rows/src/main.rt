@@ -5,7 +5,7 @@
 //! - `events`, `results`: events and rows, as lines of the book tell them
 //! - `fields`: the words of a line
 //! - `folds`, `facts`: events that are folded, and what their rows say together
-//! - `sifting`, `tagging`: what a filter lets through, and what tags it gives
+//! - `sifts`, `tags`: what a filter lets through, and what tags it gives
 //! - `texts`, `exports`: what is printed and exported
 //! - `small_book`: a book inside the book
 #![tactic(auto)]
@@ -16,9 +16,9 @@ mod facts;
 mod fields;
 mod folds;
 mod results;
-mod sifting;
+mod sifts;
 mod small_book;
-mod tagging;
+mod tags;
 mod texts;
 
 use row_book::{Row, Tables, read_book};
@@ -55,19 +55,19 @@ fn answer_run(alloc: Global, row: Row<'_>, said: &mut Vec<u8>) -> Option<()> {
 
 fn answer_sift(alloc: Global, row: Row<'_>, said: &mut Vec<u8>) -> Option<()> {
     match row.table {
-        "keep" => sifting::answer_keep(alloc, row.words, row.given, said),
-        "filtered" => sifting::answer_filtered(alloc, row.words, row.given, said),
-        "sift" => sifting::answer_sift(alloc, false, row.words, row.given, said),
-        "sift_parts" => sifting::answer_sift(alloc, true, row.words, row.given, said),
+        "keep" => sifts::answer_keep(alloc, row.words, row.given, said),
+        "filtered" => sifts::answer_filtered(alloc, row.words, row.given, said),
+        "sift" => sifts::answer_sift(alloc, false, row.words, row.given, said),
+        "sift_parts" => sifts::answer_sift(alloc, true, row.words, row.given, said),
         _ => None,
     }
 }
 
 fn answer_tags(alloc: Global, row: Row<'_>, said: &mut Vec<u8>) -> Option<()> {
     match row.table {
-        "tags" => tagging::answer_tags(alloc, row.words, row.given, said),
-        "tagged_packets" => tagging::answer_tagged_packets(alloc, row.words, row.given, said),
-        "lent_tags" => tagging::answer_lent_tags(alloc, row.words, row.given, said),
+        "tags" => tags::answer_tags(alloc, row.words, row.given, said),
+        "tagged_packets" => tags::answer_tagged_packets(alloc, row.words, row.given, said),
+        "lent_tags" => tags::answer_lent_tags(alloc, row.words, row.given, said),
         _ => None,
     }
 }

@@ -5,8 +5,8 @@ use Rattle.std.specs.Str.{bytes_eq}
 use Rattle.std.specs.declared.alloc.Global.{Global}
 
 -- the words as lists of bytes
-abbrev pub texts : List (String Global) → List (List ℕ)
-texts words = map string_bytes words
+abbrev pub words_as_bytes : List (String Global) → List (List ℕ)
+words_as_bytes words = map string_bytes words
 
 -- the face has commands
 abbrev pub has_commands : List ℕ → Bool

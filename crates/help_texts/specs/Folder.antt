@@ -8,8 +8,8 @@ abbrev pub folder_word : List ℕ
 folder_word = codes "-d"
 
 -- the word behind which no word is this option
-abbrev pub end_word : List ℕ
-end_word = codes "--"
+abbrev pub folder_end_word : List ℕ
+folder_end_word = codes "--"
 
 -- Behind the face, the words without each such option and its value, which is the next word whatever it is. One that has
 -- no value stays.
@@ -17,7 +17,7 @@ abbrev pub handed_on : List (List ℕ) → List (List ℕ)
 handed_on [] = []
 handed_on (word ∷ []) = word ∷ []
 handed_on (word ∷ value ∷ words) =
-    if bytes_eq word end_word then word ∷ value ∷ words
+    if bytes_eq word folder_end_word then word ∷ value ∷ words
     else (if bytes_eq word folder_word then handed_on words
     else word ∷ handed_on (value ∷ words))
 
@@ -26,7 +26,7 @@ abbrev pub folder_behind : Option (List ℕ) → List (List ℕ) → Option (Lis
 folder_behind found [] = found
 folder_behind found (word ∷ []) = found
 folder_behind found (word ∷ value ∷ words) =
-    if bytes_eq word end_word then found
+    if bytes_eq word folder_end_word then found
     else (if bytes_eq word folder_word then folder_behind (Some value) words
     else folder_behind found (value ∷ words))
 

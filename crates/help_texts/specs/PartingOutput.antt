@@ -3,7 +3,7 @@ use Rattle.std.specs.Prelude.{ℕ, Option, List, [], ◌∷◌, ◌++◌, option
 use Rattle.help_texts.specs.declared.output_words.Place.{Place}
 use Rattle.help_texts.specs.declared.output_words.Place.TheVariants.{Front, Any, Letter, Long, Plain}
 use Rattle.help_texts.specs.declared.output_words.PartingOutput.{PartingOutput}
-use Rattle.help_texts.specs.Asking.{texts, is_one_of}
+use Rattle.help_texts.specs.Asking.{words_as_bytes, is_one_of}
 use Rattle.help_texts.specs.Output.{letter_word, output_word, with_output, kept_behind, file_behind, words_without_output}
 
 -- which of the words that are left are handed on
@@ -15,13 +15,13 @@ kept_at Long words = kept_behind (output_word ∷ words)
 kept_at Plain words = words
 
 -- the file that words name from the filter's name on, or the one that was found before them
-abbrev pub file_in : Option (List ℕ) → List (List ℕ) → Option (List ℕ)
-file_in found [] = found
-file_in found (face ∷ words) = if is_one_of with_output face then file_behind found words else found
+abbrev pub output_file_named : Option (List ℕ) → List (List ℕ) → Option (List ℕ)
+output_file_named found [] = found
+output_file_named found (face ∷ words) = if is_one_of with_output face then file_behind found words else found
 
 -- the file that the words name which are left, or the one that was found before them
 abbrev pub file_at : Place → Option (List ℕ) → List (List ℕ) → Option (List ℕ)
-file_at Front found words = file_in found words
+file_at Front found words = output_file_named found words
 file_at Any found words = file_behind found words
 file_at Letter found words = file_behind found (letter_word ∷ words)
 file_at Long found words = file_behind found (output_word ∷ words)
@@ -29,7 +29,7 @@ file_at Plain found words = found
 
 -- all words that are handed on, where these are left
 abbrev pub all_kept : PartingOutput → List (List ℕ) → List (List ℕ)
-all_kept parting words = texts parting.words.items ++ kept_at parting.place words
+all_kept parting words = words_as_bytes parting.words.items ++ kept_at parting.place words
 
 -- the file of all words, where these are left
 abbrev pub file_of_all : PartingOutput → List (List ℕ) → Option (List ℕ)

@@ -3,7 +3,7 @@ ghost use Rattle.std.specs.Prelude.{◌≡◌, is_some};
 ghost use Rattle.help_texts.specs.Asking.{is_one_of, filters};
 
 /// The text of the filter of this name; none where there is no such filter.
-pub fn of_filter(name: &str) -> Option<&'static str>
+pub fn help_of_filter(name: &str) -> Option<&'static str>
     ensures { is_some result ≡ is_one_of filters name.now }
 {
     match name {

@@ -1,7 +1,7 @@
 // The words that name the folder to work in.
 ghost use Rattle.std.specs.Prelude.{◌≡◌, [], ◌∷◌, ◌++◌, List, ℕ, IfOk, OnOk, None, option_map, string_bytes};
 ghost use Rattle.help_texts.specs.declared.folder_words.Turn.TheVariants.{Face};
-ghost use Rattle.help_texts.specs.Asking.{texts};
+ghost use Rattle.help_texts.specs.Asking.{words_as_bytes};
 ghost use Rattle.help_texts.specs.Folder.{kept_words, named_folder};
 ghost use Rattle.help_texts.specs.Parting.{turn_behind, kept_with, folder_with};
 
@@ -19,9 +19,9 @@ pub struct Parted {
 
 /// Takes each `-d` and its value out of the words of `testr` or `stestr`, up to a word `--`. The value of the last one is the folder.
 /// The words of another face stay as they are.
-pub fn part_words(alloc: Global, words: &[String]) -> Result<Parted, AllocError>
-    ensures words { IfOk result (λ parted. texts parted.words.items ≡ kept_words (texts words.now)) }
-    ensures folder { IfOk result (λ parted. option_map string_bytes parted.folder ≡ named_folder (texts words.now)) }
+pub fn take_folder_words(alloc: Global, words: &[String]) -> Result<Parted, AllocError>
+    ensures words { IfOk result (λ parted. words_as_bytes parted.words.items ≡ kept_words (words_as_bytes words.now)) }
+    ensures folder { IfOk result (λ parted. option_map string_bytes parted.folder ≡ named_folder (words_as_bytes words.now)) }
 {
     let mut parting = Parting::new(alloc);
     for word in words {
@@ -89,7 +89,7 @@ impl Parting {
 
     // Hands the word on.
     fn keep(&mut self, word: &str, turn: Turn) -> Result<(), AllocError>
-        ensures words { OnOk result (texts self.new.words.items ≡ texts self.old.words.items ++ word.now ∷ []) }
+        ensures words { OnOk result (words_as_bytes self.new.words.items ≡ words_as_bytes self.old.words.items ++ word.now ∷ []) }
         ensures folder { self.new.folder ≡ self.old.folder }
         ensures turn { OnOk result (self.new.turn ≡ turn) }
     {
@@ -100,7 +100,7 @@ impl Parting {
 
     // All words were taken. The option without a value is a word.
     fn finish(mut self) -> Result<Parted, AllocError>
-        ensures words { IfOk result (λ parted. texts parted.words.items ≡ kept_with self []) }
+        ensures words { IfOk result (λ parted. words_as_bytes parted.words.items ≡ kept_with self []) }
         ensures folder { IfOk result (λ parted. option_map string_bytes parted.folder ≡ folder_with self []) }
     {
         if matches!(self.turn, Turn::Value) {

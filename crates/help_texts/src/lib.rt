@@ -14,6 +14,6 @@ mod folder_words;
 mod output_words;
 mod testr_help;
 
-pub use folder_words::{Parted, part_words};
-pub use output_words::{Aimed, part_output};
-pub use testr_help::help;
+pub use folder_words::{Parted, take_folder_words};
+pub use output_words::{Aimed, take_output_words};
+pub use testr_help::help_of_testr;

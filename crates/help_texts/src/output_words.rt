@@ -1,7 +1,7 @@
 // The words that name the file that a filter writes.
 ghost use Rattle.std.specs.Prelude.{◌≡◌, [], ◌∷◌, ◌++◌, List, ℕ, IfOk, OnOk, None, Some, option_map, string_bytes, if◌then◌else◌};
 ghost use Rattle.help_texts.specs.declared.output_words.Place.TheVariants.{Front, Any as AnyWord, Plain as PlainWord};
-ghost use Rattle.help_texts.specs.Asking.{texts, is_one_of};
+ghost use Rattle.help_texts.specs.Asking.{words_as_bytes, is_one_of};
 ghost use Rattle.help_texts.specs.Output as output;
 ghost use Rattle.help_texts.specs.PartingOutput.{all_kept, file_of_all};
 
@@ -18,9 +18,9 @@ pub struct Aimed {
 
 /// Takes each `-o` and `--output-to` with its value out of the words of a filter that has this option. The value of the last
 /// one is the file. The words of another face stay as they are.
-pub fn part_output(alloc: Global, words: &[String]) -> Result<Aimed, AllocError>
-    ensures words { IfOk result (λ aimed. texts aimed.words.items ≡ output.words_without_output (texts words.now)) }
-    ensures file { IfOk result (λ aimed. option_map string_bytes aimed.file ≡ output.output_file (texts words.now)) }
+pub fn take_output_words(alloc: Global, words: &[String]) -> Result<Aimed, AllocError>
+    ensures words { IfOk result (λ aimed. words_as_bytes aimed.words.items ≡ output.words_without_output (words_as_bytes words.now)) }
+    ensures file { IfOk result (λ aimed. option_map string_bytes aimed.file ≡ output.output_file (words_as_bytes words.now)) }
 {
     let mut parting = PartingOutput::new(alloc);
     for word in words {
@@ -151,7 +151,7 @@ impl PartingOutput {
 
     // Hands the word on.
     fn keep(&mut self, word: &str, place: Place) -> Result<(), AllocError>
-        ensures words { OnOk result (texts self.new.words.items ≡ texts self.old.words.items ++ word.now ∷ []) }
+        ensures words { OnOk result (words_as_bytes self.new.words.items ≡ words_as_bytes self.old.words.items ++ word.now ∷ []) }
         ensures file { self.new.file ≡ self.old.file }
         ensures place { OnOk result (self.new.place ≡ place) }
     {
@@ -173,7 +173,7 @@ impl PartingOutput {
 
     // All words were taken. An option without a value is a word.
     fn finish(mut self) -> Result<Aimed, AllocError>
-        ensures words { IfOk result (λ aimed. texts aimed.words.items ≡ all_kept self []) }
+        ensures words { IfOk result (λ aimed. words_as_bytes aimed.words.items ≡ all_kept self []) }
         ensures file { IfOk result (λ aimed. option_map string_bytes aimed.file ≡ file_of_all self []) }
     {
         match self.place {

@@ -1,13 +1,13 @@
 // What the program tells of itself.
 ghost use Rattle.std.specs.Prelude.{◌≡◌, is_some};
-ghost use Rattle.help_texts.specs.Asking.{asks_of_filter, texts, asks, asks_by_two, asks_by_three, asks_of_program, is_one_of, is_command, commands, has_commands as has_these_commands};
+ghost use Rattle.help_texts.specs.Asking.{asks_of_filter, words_as_bytes, asks, asks_by_two, asks_by_three, asks_of_program, is_one_of, is_command, commands, has_commands as has_these_commands};
 
-use crate::filter_help::of_filter;
+use crate::filter_help::help_of_filter;
 
 /// The text that these words ask for, where they are `testr --help`, `testr --version`, a command of `testr` and `--help`,
 /// the same of `stestr`, or a filter and `--help` or `-h`. Of `subunit-tags`, `-h` removes a tag.
-pub fn help(words: &[String]) -> Option<&'static str>
-    ensures asked { is_some result ≡ asks (texts words.now) }
+pub fn help_of_testr(words: &[String]) -> Option<&'static str>
+    ensures asked { is_some result ≡ asks (words_as_bytes words.now) }
 {
     match words {
         [face, word] => return by_two(face.as_str(), word.as_str()),
@@ -32,7 +32,7 @@ fn by_two(face: &str, word: &str) -> Option<&'static str>
     if has_commands(face) {
         of_program(word)
     } else if asks_filter(face, word) {
-        of_filter(face)
+        help_of_filter(face)
     } else {
         None
     }

@@ -16,13 +16,13 @@ use Rattle.jiff_core.proofs.StandardFacts.{known_days}
 use Rattle.instants.specs.Calendar.{Day, first_of_year, first_of_month, day_after, day_of}
 
 -- the day is one of the calendar, not before 1970, and has this number
-pub record IsNumbered (n : ℕ) (d : Day) : Type 0 where
+pub record IsDayNumber (n : ℕ) (d : Day) : Type 0 where
   pub from : 1970 ≤ d.year
   pub month : IsInRange 1 12 d.month
   pub day : IsInRange 1 (days_in_month (pos d.year) d.month) d.day
   pub number : days_from_civil (pos d.year) d.month d.day ≡ pos n
 
-next_day : (n : ℕ) (d : Day) → IsNumbered n d → d.day < days_in_month (pos d.year) d.month → IsNumbered (suc n) (record { year = d.year; month = d.month; day = d.day + 1 })
+next_day : (n : ℕ) (d : Day) → IsDayNumber n d → d.day < days_in_month (pos d.year) d.month → IsDayNumber (suc n) (record { year = d.year; month = d.month; day = d.day + 1 })
 next_day n d is below = record {
   from = is.from;
   month = is.month;
@@ -30,7 +30,7 @@ next_day n d is below = record {
   number = omega (arith, signed_arith, is.number, is.day, days_from_civil-day (pos d.year) d.month d.day (d.day + 1) is.day.0 (omega arith));
 }
 
-next_month : (n : ℕ) (d : Day) → IsNumbered n d → days_in_month (pos d.year) d.month ≤ d.day → d.month < 12 → IsNumbered (suc n) (first_of_month d.year (d.month + 1))
+next_month : (n : ℕ) (d : Day) → IsDayNumber n d → days_in_month (pos d.year) d.month ≤ d.day → d.month < 12 → IsDayNumber (suc n) (first_of_month d.year (d.month + 1))
 next_month n d is last below = record {
   from = is.from;
   month = (omega arith, omega (arith, below));
@@ -45,7 +45,7 @@ december_is_last y n m d is day last number =
     let d-is : d ≡ 31 = omega (arith, most, least) in
     rw (is, d-is) at number
 
-next_year : (n : ℕ) (d : Day) → IsNumbered n d → days_in_month (pos d.year) d.month ≤ d.day → 12 ≤ d.month → IsNumbered (suc n) (first_of_year (d.year + 1))
+next_year : (n : ℕ) (d : Day) → IsDayNumber n d → days_in_month (pos d.year) d.month ≤ d.day → 12 ≤ d.month → IsDayNumber (suc n) (first_of_year (d.year + 1))
 next_year n d is last december = record {
   from = omega (arith, is.from);
   month = (omega arith, omega arith);
@@ -55,15 +55,15 @@ next_year n d is last december = record {
       omega (arith, signed_arith, ended, days_from_civil-next_year (pos d.year) (pos (d.year + 1)) (omega (arith, signed_arith)) (omega (arith, signed_arith)));
 }
 
-next : (n : ℕ) (d : Day) → IsNumbered n d → IsNumbered (suc n) (day_after d)
+next : (n : ℕ) (d : Day) → IsDayNumber n d → IsDayNumber (suc n) (day_after d)
 next n d is =
-    cond_both (nat_lt d.day (days_in_month (pos d.year) d.month)) _ _ (IsNumbered (suc n))
+    cond_both (nat_lt d.day (days_in_month (pos d.year) d.month)) _ _ (IsDayNumber (suc n))
     (λ below. next_day n d is (ltb-true d.day (days_in_month (pos d.year) d.month) below))
-    (λ last. cond_both (nat_lt d.month 12) _ _ (IsNumbered (suc n))
+    (λ last. cond_both (nat_lt d.month 12) _ _ (IsDayNumber (suc n))
     (λ month. next_month n d is (ltb-false d.day (days_in_month (pos d.year) d.month) last) (ltb-true d.month 12 month))
     (λ month. next_year n d is (ltb-false d.day (days_in_month (pos d.year) d.month) last) (ltb-false d.month 12 month)))
 
-pub numbered : (n : ℕ) → IsNumbered n (day_of n)
+pub numbered : (n : ℕ) → IsDayNumber n (day_of n)
 unfolding day_of
 numbered zero = record { from = omega arith; month = (omega arith, omega arith); day = (omega arith, omega arith); number = known_days.0 }
 numbered (suc n) = next n (day_of n) (numbered n)
@@ -78,7 +78,7 @@ late y m d above one =
     ] in
     omega (arith, start, day_count-day_of_year (pos y) m d one)
 
-pub has_year : (n : ℕ) (d : Day) → n ≤ 2932896 → IsNumbered n d → IsYear (pos d.year)
+pub has_year : (n : ℕ) (d : Day) → n ≤ 2932896 → IsDayNumber n d → IsYear (pos d.year)
 has_year n d few is =
     elim (cases_lt 9999 d.year) [
       | inl above ↦ absurd (omega (arith, signed_arith, is.number, days_from_civil-day_count (pos d.year) d.month d.day, late d.year d.month d.day above is.day.0))
@@ -86,7 +86,7 @@ has_year n d few is =
     ]
 
 -- the date of the library that has these parts
-date_with : (n : ℕ) (d : Day) → n ≤ 2932896 → IsNumbered n d → Date
+date_with : (n : ℕ) (d : Day) → n ≤ 2932896 → IsDayNumber n d → Date
 date_with n d few is = record { year = pos d.year; month = d.month; day = d.day; year_in = has_year n d few is; month_in = is.month; day_in = is.day }
 
 -- a date with this number has the parts of the day

@@ -34,7 +34,7 @@ nanos_told d hour minute second dt from parts clock =
     omega (arith, signed_arith, whole, clock)
 
 -- the date and the time exist, and are not before 1970
-pub record IsThere (d : Day) (hour minute second : ℕ) : Type 0 where
+pub record IsRealSecond (d : Day) (hour minute second : ℕ) : Type 0 where
   pub from : 1970 ≤ d.year
   pub month : IsInRange 1 12 d.month
   pub day : IsInRange 1 (days_in_month (pos d.year) d.month) d.day
@@ -49,7 +49,7 @@ is_day_there d from month day =
 is_clock_there : (hour minute second : ℕ) → hour < 24 → minute < 60 → second < 60 → is_clock hour minute second ≡ true
 is_clock_there hour minute second h m s = and_from _ _ (lt-ltb hour 24 h) (and_from _ _ (lt-ltb minute 60 m) (lt-ltb second 60 s))
 
-there_from : (d : Day) (hour minute second : ℕ) → is_day d ≡ true → is_clock hour minute second ≡ true → IsThere d hour minute second
+there_from : (d : Day) (hour minute second : ℕ) → is_day d ≡ true → is_clock hour minute second ≡ true → IsRealSecond d hour minute second
 there_from d hour minute second day clock =
     let a = and_parts _ _ day in
     let b = and_parts _ _ a.1 in
@@ -66,19 +66,19 @@ there_from d hour minute second day clock =
       second_in = ltb-true second 60 h.1;
     }
 
-there_some : (d : Day) (hour minute second n : ℕ) → IsThere d hour minute second → n ≡ day_and_clock d hour minute second → n < 2 ^ 32 → Some n ≡ seconds_with d hour minute second
+there_some : (d : Day) (hour minute second n : ℕ) → IsRealSecond d hour minute second → n ≡ day_and_clock d hour minute second → n < 2 ^ 32 → Some n ≡ seconds_with d hour minute second
 there_some d hour minute second n there is below =
     ap (λ (x : ℕ). Some x) is ∙ sym (cond-true _ (Some (day_and_clock d hour minute second)) None
     (and_from _ _ (is_day_there d there.from there.month there.day) (and_from _ _ (is_clock_there hour minute second there.hour_in there.minute_in there.second_in) (lt-ltb (day_and_clock d hour minute second) (2 ^ 32) (rw (← is) below)))))
 
-there_none : (d : Day) (hour minute second : ℕ) → (IsThere d hour minute second → day_and_clock d hour minute second < 2 ^ 32 → ⊥) → None ≡ seconds_with d hour minute second
+there_none : (d : Day) (hour minute second : ℕ) → (IsRealSecond d hour minute second → day_and_clock d hour minute second < 2 ^ 32 → ⊥) → None ≡ seconds_with d hour minute second
 there_none d hour minute second not =
     sym (cond-false _ (Some (day_and_clock d hour minute second)) None (false_from_ne_true _ (λ all.
     let a = and_parts _ _ all in
     let b = and_parts _ _ a.1 in
     not (there_from d hour minute second a.0 b.0) (ltb-true (day_and_clock d hour minute second) (2 ^ 32) b.1))))
 
-there_shown : (d : Day) (hour minute second : ℕ) (dt : DateTime) → 1970 ≤ d.year → IsYmd (pos d.year) (pos d.month) (pos d.day) dt.date → IsHms (pos hour) (pos minute) (pos second) (pos 0) dt.time → IsThere d hour minute second
+there_shown : (d : Day) (hour minute second : ℕ) (dt : DateTime) → 1970 ≤ d.year → IsYmd (pos d.year) (pos d.month) (pos d.day) dt.date → IsHms (pos hour) (pos minute) (pos second) (pos 0) dt.time → IsRealSecond d hour minute second
 there_shown d hour minute second dt from parts clock =
     let month : dt.date.month ≡ d.month = omega (arith, signed_arith, parts.1) in
     let day : dt.date.day ≡ d.day = omega (arith, signed_arith, parts.2) in

@@ -14,7 +14,7 @@ pub record IsSecondOf (seconds : ℕ) (nanos : ℤ) : Type 0 where
   pub high : nanos <ℤ pos ((seconds + 1) * 1000000000)
 
 -- four digits of the year, and two of each other part
-pub record IsShort (told : Told) : Type 0 where
+pub record FitsDigits (told : Told) : Type 0 where
   pub year : told.year < 10000
   pub month : told.month < 100
   pub day : told.day < 100

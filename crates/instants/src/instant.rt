@@ -7,7 +7,7 @@ ghost use Rattle.jiff_core.specs.Calendar.{IsDate};
 ghost use Rattle.jiff_core.specs.Date.{IsYmd};
 ghost use Rattle.jiff_core.specs.Time.{IsTime, IsHms};
 ghost use Rattle.instants.specs.Instants as spec;
-ghost use Rattle.instants.specs.Dates.{IsSecondOf, IsShort, day_told, meant};
+ghost use Rattle.instants.specs.Dates.{IsSecondOf, FitsDigits, day_told, meant};
 
 use crate::digits::{are_digits, value_of};
 use jiff::civil::DateTime;
@@ -82,7 +82,7 @@ fn seconds_at(when: DateTime) -> Option<u32>
 
 // The date and time, where they exist.
 fn date_time(told: Told) -> Option<DateTime>
-    requires { IsShort told }
+    requires { FitsDigits told }
     ensures some { IfSome result (λ when. IsYmd (pos told.year) (pos told.month) (pos told.day) when.date × IsHms (pos told.hour) (pos told.minute) (pos told.second) (pos 0) when.time) }
     ensures none { IsNone result → IsDate (pos told.year) (pos told.month) (pos told.day) → IsTime (pos told.hour) (pos told.minute) (pos told.second) (pos 0) → ⊥ }
 {
@@ -100,7 +100,7 @@ fn date_time(told: Told) -> Option<DateTime>
 
 // The seconds from 1970 to the date and time, where these exist, not before 1970, and the seconds are fewer than 2^32.
 fn seconds_with(told: Told) -> Option<u32>
-    requires { IsShort told }
+    requires { FitsDigits told }
     ensures { result ≡ spec.seconds_with (day_told told) told.hour told.minute told.second }
 {
     if told.year < 1970 {
@@ -114,7 +114,7 @@ fn parts_told(bytes: &[u8]) -> Told
     requires long { 19 ≤ length bytes.now }
     requires date { IsTrue (spec.has_date_form bytes.now) }
     requires clock { IsTrue (spec.has_clock_form bytes.now) }
-    ensures short { IsShort result }
+    ensures short { FitsDigits result }
     ensures day { day_told result ≡ spec.day_at bytes.now }
     ensures hour { result.hour ≡ spec.number_at 11 2 bytes.now }
     ensures minute { result.minute ≡ spec.number_at 14 2 bytes.now }

@@ -14,5 +14,5 @@ candidates_run candidates Alone = []
 candidates_run candidates (Span from to) = take (to - from) (drop from candidates)
 
 -- all ids that the probe runs, in order: these candidates, and then the test
-abbrev pub ids_of : List (List ℕ) → Probe → List ℕ → List (List ℕ)
-ids_of candidates probe test = candidates_run candidates probe ++ test ∷ []
+abbrev pub probe_ids : List (List ℕ) → Probe → List ℕ → List (List ℕ)
+probe_ids candidates probe test = candidates_run candidates probe ++ test ∷ []

@@ -64,8 +64,8 @@ pub record IsNarrowed (candidates : ℕ) (asked : List Asked) (from left to : �
 
 -- however many binary digits hold the number of candidates, two for each, and two more, are enough for the probes that
 -- were asked and those that a span of this size may need
-abbrev pub HasRoom : ℕ → ℕ → ℕ → Type 0
-HasRoom candidates count size =
+abbrev pub ProbesSuffice : ℕ → ℕ → ℕ → Type 0
+ProbesSuffice candidates count size =
     (digits : ℕ) → candidates ≤ 2 ^ digits → (more : ℕ) × (size ≤ 2 ^ more) × (count + 2 * more ≤ 2 * digits + 2)
 
 -- the answers came to this verdict
@@ -75,23 +75,23 @@ IsFound candidates asked found.NotSeen =
     ((candidates ≡ 0) × (asked ≡ answered probe.Alone false ∷ []))
     ⊎ ((0 < candidates) × (asked ≡ answered probe.Alone false ∷ answered (probe.Span 0 candidates) false ∷ []))
 IsFound candidates asked (found.Cause cause) =
-    IsNarrowed candidates asked cause cause (cause + 1) × HasRoom candidates (length asked) 1
+    IsNarrowed candidates asked cause cause (cause + 1) × ProbesSuffice candidates (length asked) 1
 IsFound candidates asked found.Several =
     (from : ℕ) × (to : ℕ) × IsNarrowed candidates asked from to to × (from + 2 ≤ to)
     × (answer_to asked (probe.Span from (middle from to)) ≡ Some false)
     × (answer_to asked (probe.Span (middle from to) to) ≡ Some false)
-    × HasRoom candidates (length asked) 1
+    × ProbesSuffice candidates (length asked) 1
 
 -- the answers came to this step
 abbrev pub IsAt : ℕ → List Asked → Step → Type 0
 IsAt candidates asked Alone = asked ≡ []
 IsAt candidates asked Whole = (0 < candidates) × (asked ≡ answered probe.Alone false ∷ [])
 IsAt candidates asked (First from to) =
-    IsNarrowed candidates asked from from to × (from + 2 ≤ to) × HasRoom candidates (length asked) (to - from)
+    IsNarrowed candidates asked from from to × (from + 2 ≤ to) × ProbesSuffice candidates (length asked) (to - from)
 IsAt candidates asked (Second from to) =
     IsNarrowed candidates asked from (middle from to) to × (from + 2 ≤ to)
     × (answer_to asked (probe.Span from (middle from to)) ≡ Some false)
-    × HasRoom candidates (length asked - 1) (to - from)
+    × ProbesSuffice candidates (length asked - 1) (to - from)
 IsAt candidates asked (Done found) = IsFound candidates asked found
 
 -- a search of fewer than 2^32 candidates that asked these probes stands at this step

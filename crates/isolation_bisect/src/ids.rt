@@ -1,7 +1,7 @@
 //! The ids of a probe.
 
 ghost use Rattle.std.specs.Prelude.{◌≡◌, length, IfOk};
-ghost use Rattle.isolation_bisect.specs.Probes.{candidates_run, ids_of, IsWithin};
+ghost use Rattle.isolation_bisect.specs.Probes.{candidates_run, probe_ids, IsWithin};
 
 use crate::probe::Probe;
 use std::alloc::Global;
@@ -27,7 +27,7 @@ pub fn probe_ids(
     test: &Text,
 ) -> Result<IdList, NoMemory>
     requires { IsWithin (length candidates.now) probe.now }
-    ensures { IfOk result (λ ids. ids ≡ ids_of candidates.now probe.now test.now) }
+    ensures { IfOk result (λ ids. ids ≡ probe_ids candidates.now probe.now test.now) }
 {
     let mut ids = IdList::new(alloc);
     for id in candidates_run(candidates, probe) {

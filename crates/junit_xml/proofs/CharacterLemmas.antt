@@ -6,8 +6,8 @@ use Rattle.std.specs.Option.{option_or, unwrap_or}
 use Rattle.std.proofs.lemmas.Bool.{cases_Bool, cond-true, cond-false, cond_both, eqb-true, ne_eqb, and_from, and_parts, and_left, or_from, ltb-true, ltb-false, lt-ltb, lt-leb, le-leb, cases_lt}
 use Rattle.std.proofs.lemmas.Str.{length-encode, len_utf8_bounds}
 use Rattle.bstr.specs.Utf8.{replacement, lossy_chars}
-use Rattle.junit_xml.specs.declared.escaping.Place.{Place}
-use Rattle.junit_xml.specs.declared.escaping.Place.TheVariants as place
+use Rattle.junit_xml.specs.declared.characters.Place.{Place}
+use Rattle.junit_xml.specs.declared.characters.Place.TheVariants as place
 use Rattle.junit_xml.specs.Characters.{is_xml_char, shown_char, markup_escape, break_escape, refused_escape, escape, written_char, written}
 use Rattle.junit_xml.proofs.Cuts.{is_other, all_both}
 use lib.Utf8.{encode, next}

@@ -14,16 +14,16 @@ use Rattle.outcome_fold.specs.declared.row.Ended.TheVariants as ended
 use Rattle.outcome_fold.specs.declared.row.Row.{Row}
 use Rattle.outcome_fold.specs.declared.row.Counts.{Counts}
 use Rattle.outcome_fold.specs.Answers.{is_run, is_counted, is_skipped, row_fails, counts_of, counted_rows}
-use Rattle.junit_xml.specs.declared.escaping.Place.TheVariants.{Text, Value}
-use Rattle.junit_xml.specs.Characters.{shown, written}
-use Rattle.junit_xml.specs.Seconds.{seconds_of}
-use Rattle.junit_xml.specs.Documents.{attribute, tag_line, class_of, name_of, case_begin, failure, skipped, inside_of, case_text, case_of, declaration, suite_begin, head_of, tail_text, junit_of}
+use Rattle.junit_xml.specs.declared.characters.Place.TheVariants.{Text, Value}
+use Rattle.junit_xml.specs.Characters.{shown_utf8, written}
+use Rattle.junit_xml.specs.Seconds.{seconds_text}
+use Rattle.junit_xml.specs.Documents.{attribute, tag_line, class_of, case_name, case_begin, failure, skipped, inside_of, case_text, case_of, declaration, suite_begin, head_of, tail_text, junit_of}
 use Rattle.junit_xml.specs.Reading as reading
-use Rattle.junit_xml.specs.Reading.{Reading, Tag, Heading, Case, Verdict, Document, read_tag, read_on, read_next, read_document, document_of, document_read}
-use Rattle.junit_xml.specs.Told.{verdict_of, told_case, told_counts, told_of}
+use Rattle.junit_xml.specs.Reading.{Reading, Tag, Heading, Case, CaseVerdict, Document, read_tag, read_on, read_next, read_document, document_of, document_read}
+use Rattle.junit_xml.specs.Told.{case_verdict, told_case, told_counts, told_document}
 use Rattle.junit_xml.proofs.Cuts.{lacks, cut_fronted}
 use Rattle.junit_xml.proofs.NameLemmas.{id_back}
-use Rattle.junit_xml.proofs.TagLemmas.{suite_part, suite_closed, suite_read, suite_pieces, AreShort, case_part, case_closed, case_read, case_pieces, failure_part, failure_closed, failure_read, skip_part, skip_closed, skip_read}
+use Rattle.junit_xml.proofs.TagLemmas.{suite_part, suite_closed, suite_read, suite_pieces, AreSmallCounts, case_part, case_closed, case_read, case_pieces, failure_part, failure_closed, failure_read, skip_part, skip_closed, skip_read}
 
 -- The parts of a document: what stands behind each `<`.
 
@@ -93,7 +93,7 @@ case_line_is class name seconds =
     ∙ sym (right_three class (codes " name=\"") name (codes " time=\"") seconds (codes "\"") (codes ">") (codes "\n")))
 
 begin_is : (row : Row) → case_begin row ≡ fronted (case_part row)
-begin_is row = case_line_is (written Value (class_of row.id)) (written Value (name_of row.id)) (seconds_of row.nanos)
+begin_is row = case_line_is (written Value (class_of row.id)) (written Value (case_name row.id)) (seconds_text row.nanos)
 
 case_is : (row : Row) → case_text row ≡ flat_map fronted (case_parts row)
 case_is row =
@@ -125,7 +125,7 @@ suite_line_is tests failures skips seconds =
     ∙ sym (right_four tests (codes " failures=\"") failures (codes " errors=\"0\"") (codes " skipped=\"") skips (codes " time=\"") seconds (codes "\"") (codes ">") (codes "\n")))
 
 suite_is : (counts : Counts) → suite_begin counts ≡ fronted (suite_part counts)
-suite_is counts = suite_line_is (decimal counts.total) (decimal counts.failed) (decimal counts.skipped) (seconds_of counts.nanos)
+suite_is counts = suite_line_is (decimal counts.total) (decimal counts.failed) (decimal counts.skipped) (seconds_text counts.nanos)
 
 document_is : (rows : List Row) → junit_of rows ≡ flat_map fronted (document_parts rows)
 document_is rows =
@@ -182,30 +182,30 @@ leads_on : (r s t : Reading) (part : List ℕ) (tag : Tag) (parts : List (List �
 leads_on r s t part tag parts read on rest = ap (λ o. fold read_next (option_and_then (read_on r) o) parts) read ∙ ap (λ o. fold read_next o parts) on ∙ rest
 
 -- a failure, and the end of its case
-failure_leads : (heading : Heading) (cases : List Case) (id seconds kind text : List ℕ) (how : Ended) → read_tag (failure_part kind text) ≡ Some (reading.begins_failure how (shown text))
-    → Leads (reading.in_case heading cases id seconds) (failure_part kind text ∷ codes "/failure>\n" ∷ case_end ∷ []) (reading.in_suite heading (cases ++ record { id = id; seconds = seconds; verdict = reading.failed how (shown text) } ∷ []))
+failure_leads : (heading : Heading) (cases : List Case) (id seconds kind text : List ℕ) (how : Ended) → read_tag (failure_part kind text) ≡ Some (reading.begins_failure how (shown_utf8 text))
+    → Leads (reading.in_case heading cases id seconds) (failure_part kind text ∷ codes "/failure>\n" ∷ case_end ∷ []) (reading.in_suite heading (cases ++ record { id = id; seconds = seconds; verdict = reading.failed how (shown_utf8 text) } ∷ []))
 failure_leads heading cases id seconds kind text how read =
-    let told : Case = record { id = id; seconds = seconds; verdict = reading.failed how (shown text) } in
-    leads_on (reading.in_case heading cases id seconds) (reading.in_failure heading cases told) (reading.in_suite heading (cases ++ told ∷ [])) (failure_part kind text) (reading.begins_failure how (shown text)) (codes "/failure>\n" ∷ case_end ∷ []) read refl refl
+    let told : Case = record { id = id; seconds = seconds; verdict = reading.failed how (shown_utf8 text) } in
+    leads_on (reading.in_case heading cases id seconds) (reading.in_failure heading cases told) (reading.in_suite heading (cases ++ told ∷ [])) (failure_part kind text) (reading.begins_failure how (shown_utf8 text)) (codes "/failure>\n" ∷ case_end ∷ []) read refl refl
 
 inside_leads : (how : Ended) (heading : Heading) (cases : List Case) (id seconds text reason : List ℕ)
-    → Leads (reading.in_case heading cases id seconds) (inside_parts how text reason ++ case_end ∷ []) (reading.in_suite heading (cases ++ record { id = id; seconds = seconds; verdict = verdict_of how text reason } ∷ []))
+    → Leads (reading.in_case heading cases id seconds) (inside_parts how text reason ++ case_end ∷ []) (reading.in_suite heading (cases ++ record { id = id; seconds = seconds; verdict = case_verdict how text reason } ∷ []))
 inside_leads ended.Exists heading cases id seconds text reason = refl
 inside_leads ended.Success heading cases id seconds text reason = refl
 inside_leads ended.UxSuccess heading cases id seconds text reason = failure_leads heading cases id seconds (codes "uxsuccess") text ended.UxSuccess (failure_read (codes "uxsuccess") text ended.UxSuccess refl refl refl)
 inside_leads ended.Skip heading cases id seconds text reason =
-    let told : Case = record { id = id; seconds = seconds; verdict = reading.skipped (shown reason) } in
-    leads_on (reading.in_case heading cases id seconds) (reading.in_told_case heading cases told) (reading.in_suite heading (cases ++ told ∷ [])) (skip_part reason) (reading.skips (shown reason)) (case_end ∷ []) (skip_read reason) refl refl
+    let told : Case = record { id = id; seconds = seconds; verdict = reading.skipped (shown_utf8 reason) } in
+    leads_on (reading.in_case heading cases id seconds) (reading.in_told_case heading cases told) (reading.in_suite heading (cases ++ told ∷ [])) (skip_part reason) (reading.skips (shown_utf8 reason)) (case_end ∷ []) (skip_read reason) refl refl
 inside_leads ended.Fail heading cases id seconds text reason = failure_leads heading cases id seconds (codes "fail") text ended.Fail (failure_read (codes "fail") text ended.Fail refl refl refl)
 inside_leads ended.XFail heading cases id seconds text reason = refl
 inside_leads ended.Open heading cases id seconds text reason = failure_leads heading cases id seconds (codes "unfinished") text ended.Open (failure_read (codes "unfinished") text ended.Open refl refl refl)
 
 case_leads : (heading : Heading) (cases : List Case) (row : Row) → Leads (reading.in_suite heading cases) (case_parts row) (reading.in_suite heading (cases ++ told_case row ∷ []))
 case_leads heading cases row =
-    leads_on (reading.in_suite heading cases) (reading.in_case heading cases (shown row.id) (seconds_of row.nanos)) (reading.in_suite heading (cases ++ told_case row ∷ [])) (case_part row) (reading.begins_case (shown row.id) (seconds_of row.nanos))
+    leads_on (reading.in_suite heading cases) (reading.in_case heading cases (shown_utf8 row.id) (seconds_text row.nanos)) (reading.in_suite heading (cases ++ told_case row ∷ [])) (case_part row) (reading.begins_case (shown_utf8 row.id) (seconds_text row.nanos))
     (inside_parts row.ended row.text row.reason ++ case_end ∷ [])
-    (case_read row ∙ ap (λ id. Some (reading.begins_case id (seconds_of row.nanos))) (id_back row.id)) refl
-    (inside_leads row.ended heading cases (shown row.id) (seconds_of row.nanos) row.text row.reason)
+    (case_read row ∙ ap (λ id. Some (reading.begins_case id (seconds_text row.nanos))) (id_back row.id)) refl
+    (inside_leads row.ended heading cases (shown_utf8 row.id) (seconds_text row.nanos) row.text row.reason)
 
 rows_lead : (heading : Heading) (cases : List Case) (rows : List Row) → Leads (reading.in_suite heading cases) (flat_map row_parts rows) (reading.in_suite heading (cases ++ map told_case (filter is_run rows)))
 rows_lead heading cases [] = ap (λ l. Some (reading.in_suite heading l)) (sym (append-nil cases))
@@ -227,7 +227,7 @@ rows_lead heading cases (row ∷ rows) =
     ∙ ap (λ l. Some (reading.in_suite heading (cases ++ map told_case l))) (sym kept))
     (cases_Bool (is_run row))
 
-counts_short : (rows : List Row) → length rows < 2 ^ 64 → AreShort (counts_of [] rows)
+counts_short : (rows : List Row) → length rows < 2 ^ 64 → AreSmallCounts (counts_of [] rows)
 counts_short rows short =
     let counted = counted_rows [] rows in
     let few : length counted ≤ length rows = omega (arith, length-filter (is_counted []) rows, count_by-le-length (is_counted []) rows) in
@@ -237,13 +237,13 @@ counts_short rows short =
       skipped = omega (arith, few, short, count_by-le-length is_skipped counted);
     }
 
-document_leads : (rows : List Row) → length rows < 2 ^ 64 → Leads reading.at_front (document_parts rows) (reading.at_end (told_of rows))
+document_leads : (rows : List Row) → length rows < 2 ^ 64 → Leads reading.at_front (document_parts rows) (reading.at_end (told_document rows))
 document_leads rows short =
     let heading = told_counts (counts_of [] rows) in
-    leads_on reading.at_front reading.is_declared (reading.at_end (told_of rows)) declaration_part reading.declares (suite_part (counts_of [] rows) ∷ flat_map row_parts rows ++ suite_end ∷ []) refl refl
-    (leads_on reading.is_declared (reading.in_suite heading []) (reading.at_end (told_of rows)) (suite_part (counts_of [] rows)) (reading.begins_suite heading) (flat_map row_parts rows ++ suite_end ∷ []) (suite_read (counts_of [] rows) (counts_short rows short)) refl
-    (leads_then (reading.in_suite heading []) (reading.in_suite heading (map told_case (filter is_run rows))) (reading.at_end (told_of rows)) (flat_map row_parts rows) (suite_end ∷ []) (rows_lead heading [] rows) refl))
+    leads_on reading.at_front reading.is_declared (reading.at_end (told_document rows)) declaration_part reading.declares (suite_part (counts_of [] rows) ∷ flat_map row_parts rows ++ suite_end ∷ []) refl refl
+    (leads_on reading.is_declared (reading.in_suite heading []) (reading.at_end (told_document rows)) (suite_part (counts_of [] rows)) (reading.begins_suite heading) (flat_map row_parts rows ++ suite_end ∷ []) (suite_read (counts_of [] rows) (counts_short rows short)) refl
+    (leads_then (reading.in_suite heading []) (reading.in_suite heading (map told_case (filter is_run rows))) (reading.at_end (told_document rows)) (flat_map row_parts rows) (suite_end ∷ []) (rows_lead heading [] rows) refl))
 
-pub document_told : (rows : List Row) → length rows < 2 ^ 64 → read_document (junit_of rows) ≡ Some (told_of rows)
+pub document_told : (rows : List Row) → length rows < 2 ^ 64 → read_document (junit_of rows) ≡ Some (told_document rows)
 document_told rows short =
     ap read_document (document_is rows) ∙ ap document_of (cut_fronted 60 (document_parts rows) (document_closed rows)) ∙ ap document_read (document_leads rows short)

@@ -12,8 +12,8 @@ use Rattle.memchr.specs.Find.{IsFirstByte, IsLastByte, is_byte, is_byte2, NoneBe
 use Rattle.bstr.specs.Utf8.{lossy_chars, or_replacement, decoded, pieces}
 use Rattle.bstr.proofs.lemmas.PieceLemmas.{StartsClean, pieces-append, lossy_chars-step, lossy_chars-nil}
 use Rattle.bstr.proofs.lemmas.LossyLemmas.{lossy_chars-front}
-use Rattle.junit_xml.specs.Characters.{shown_char, shown}
-use Rattle.junit_xml.specs.Documents.{is_point, is_opening, front_of, class_size, class_of, name_of}
+use Rattle.junit_xml.specs.Characters.{shown_char, shown_utf8}
+use Rattle.junit_xml.specs.Documents.{is_point, is_opening, front_of, class_size, class_of, case_name}
 use Rattle.junit_xml.specs.Reading.{id_with}
 use Rattle.junit_xml.proofs.CharacterLemmas.{spelled_some}
 
@@ -91,7 +91,7 @@ pub encoded_append : (xs ys : List ℕ) → encode_utf8_all (xs ++ ys) ≡ encod
 encoded_append [] ys = refl
 encoded_append (x ∷ xs) ys = ap (λ t. encode_utf8 x ++ t) (encoded_append xs ys) ∙ sym (append_assoc (encode_utf8 x) (encode_utf8_all xs) (encode_utf8_all ys))
 
-shown_parted : (class name : List ℕ) → shown (class ++ 46 ∷ name) ≡ shown class ++ 46 ∷ shown name
+shown_parted : (class name : List ℕ) → shown_utf8 (class ++ 46 ∷ name) ≡ shown_utf8 class ++ 46 ∷ shown_utf8 name
 unfolding lib.Utf8.encode
 shown_parted class name =
     let point : lossy_chars (46 ∷ name) ≡ 46 ∷ lossy_chars name =
@@ -101,31 +101,31 @@ shown_parted class name =
     ap (λ l. encode_utf8_all (map shown_char l)) chars
     ∙ ap encode_utf8_all (map-append shown_char (lossy_chars class) (46 ∷ lossy_chars name))
     ∙ encoded_append (map shown_char (lossy_chars class)) (46 ∷ map shown_char (lossy_chars name))
-    ∙ ap (λ l. shown class ++ (l ++ shown name)) (encode_ascii 46 (omega arith))
+    ∙ ap (λ l. shown_utf8 class ++ (l ++ shown_utf8 name)) (encode_ascii 46 (omega arith))
 
-shown_some : (bytes : List ℕ) → 0 < length bytes → 0 < length (shown bytes)
+shown_some : (bytes : List ℕ) → 0 < length bytes → 0 < length (shown_utf8 bytes)
 shown_some bytes some =
     let step = lossy_chars-step bytes some in
     let first = shown_char (or_replacement (decoded bytes).char) in
     let rest = encode_utf8_all (map shown_char (lossy_chars (drop (decoded bytes).size bytes))) in
-    let is : shown bytes ≡ encode_utf8 first ++ rest = ap (λ l. encode_utf8_all (map shown_char l)) step in
+    let is : shown_utf8 bytes ≡ encode_utf8 first ++ rest = ap (λ l. encode_utf8_all (map shown_char l)) step in
     omega (arith, ap length is, length-append (encode_utf8 first) rest, spelled_some first)
 
 -- the two names make the id
-pub id_back : (id : List ℕ) → id_with (shown (class_of id)) (shown (name_of id)) ≡ shown id
+pub id_back : (id : List ℕ) → id_with (shown_utf8 (class_of id)) (shown_utf8 (case_name id)) ≡ shown_utf8 id
 id_back id =
     ⊎_elim
     (λ (none : (class_size id == 0) ≡ true).
     let empty : class_of id ≡ [] = ap (λ n. take n id) (eqb-true (class_size id) 0 none) in
-    let nothing : shown (class_of id) ≡ [] = ap shown empty ∙ ap (λ l. encode_utf8_all (map shown_char l)) lossy_chars-nil in
-    let whole : name_of id ≡ id = cond-true (class_size id == 0) id (drop (class_size id + 1) id) none in
-    ap (λ l. id_with l (shown (name_of id))) nothing ∙ ap shown whole)
+    let nothing : shown_utf8 (class_of id) ≡ [] = ap shown_utf8 empty ∙ ap (λ l. encode_utf8_all (map shown_char l)) lossy_chars-nil in
+    let whole : case_name id ≡ id = cond-true (class_size id == 0) id (drop (class_size id + 1) id) none in
+    ap (λ l. id_with l (shown_utf8 (case_name id))) nothing ∙ ap shown_utf8 whole)
     (λ (no : (class_size id == 0) ≡ false).
     let some : 0 < class_size id = grind (arith, nat_tests) in
-    let part : name_of id ≡ drop (class_size id + 1) id = cond-false (class_size id == 0) id (drop (class_size id + 1) id) no in
-    let longer : 0 < length (shown (class_of id)) = shown_some (class_of id) (omega (arith, length-take (class_size id) id, (class_within id).0 some)) in
-    cond-false (length (shown (class_of id)) == 0) (shown (name_of id)) (shown (class_of id) ++ codes "." ++ shown (name_of id)) (ne_eqb (length (shown (class_of id))) 0 (λ is. absurd (omega arith)))
-    ∙ append_assoc (shown (class_of id)) (codes ".") (shown (name_of id))
-    ∙ ap (λ l. shown (class_of id) ++ 46 ∷ shown l) part
-    ∙ sym (shown_parted (class_of id) (drop (class_size id + 1) id)) ∙ sym (ap shown (parted id some)))
+    let part : case_name id ≡ drop (class_size id + 1) id = cond-false (class_size id == 0) id (drop (class_size id + 1) id) no in
+    let longer : 0 < length (shown_utf8 (class_of id)) = shown_some (class_of id) (omega (arith, length-take (class_size id) id, (class_within id).0 some)) in
+    cond-false (length (shown_utf8 (class_of id)) == 0) (shown_utf8 (case_name id)) (shown_utf8 (class_of id) ++ codes "." ++ shown_utf8 (case_name id)) (ne_eqb (length (shown_utf8 (class_of id))) 0 (λ is. absurd (omega arith)))
+    ∙ append_assoc (shown_utf8 (class_of id)) (codes ".") (shown_utf8 (case_name id))
+    ∙ ap (λ l. shown_utf8 (class_of id) ++ 46 ∷ shown_utf8 l) part
+    ∙ sym (shown_parted (class_of id) (drop (class_size id + 1) id)) ∙ sym (ap shown_utf8 (parted id some)))
     (cases_Bool (class_size id == 0))

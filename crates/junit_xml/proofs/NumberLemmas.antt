@@ -8,7 +8,8 @@ use Rattle.std.specs.Option.{unwrap_or}
 use Rattle.std.specs.Str.Parse.{digits_value}
 use Rattle.std.proofs.lemmas.Bool.{cond-true, cond_both, and_from, lt-ltb, le-leb}
 use Rattle.std.proofs.lemmas.Fmt.{decimal_is_IsNumeral, decimal_nonempty}
-use Rattle.junit_xml.specs.Seconds.{millis_of, three_digits, printed_seconds, seconds_of}
+use Rattle.sub_number.specs.Seconds.{millis_of, three_digits, printed_seconds}
+use Rattle.junit_xml.specs.Seconds.{seconds_text}
 use Rattle.junit_xml.specs.Reading.{read_number}
 use Rattle.junit_xml.proofs.Cuts.{all_both}
 
@@ -31,7 +32,7 @@ three_all : (test : ℕ → Bool) → ((digit : ℕ) → digit < 10 → test (48
 three_all test each n small = and_from _ _ (each (n / 100) (omega arith)) (and_from _ _ (each (n / 10 % 10) (omega arith)) (and_from _ _ (each (n % 10) (omega arith)) refl))
 
 -- a time is digits and a point
-pub seconds_all : (test : ℕ → Bool) → ((digit : ℕ) → digit < 10 → test (48 + digit) ≡ true) → test 46 ≡ true → (nanos : Option ℕ) → list_all test (seconds_of nanos) ≡ true
+pub seconds_all : (test : ℕ → Bool) → ((digit : ℕ) → digit < 10 → test (48 + digit) ≡ true) → test 46 ≡ true → (nanos : Option ℕ) → list_all test (seconds_text nanos) ≡ true
 seconds_all test each point nanos =
     let n = unwrap_or nanos 0 in
     all_both test (decimal (millis_of n / 1000) ++ codes ".") (three_digits (millis_of n % 1000))

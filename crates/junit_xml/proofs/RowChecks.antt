@@ -6,11 +6,11 @@ use Rattle.bstr.specs.Utf8.{pieces_from}
 use Rattle.outcome_fold.specs.declared.row.Ended.{Ended}
 use Rattle.outcome_fold.specs.declared.row.Ended.TheVariants as ended
 use Rattle.outcome_fold.specs.declared.row.Row.{Row}
-use Rattle.junit_xml.specs.declared.escaping.Place.TheVariants.{Text, Value}
-use Rattle.junit_xml.specs.Characters.{written, shown}
-use Rattle.junit_xml.specs.Documents.{class_of, name_of, case_of, skipped, failure, junit_of}
+use Rattle.junit_xml.specs.declared.characters.Place.TheVariants.{Text, Value}
+use Rattle.junit_xml.specs.Characters.{written, shown_utf8}
+use Rattle.junit_xml.specs.Documents.{class_of, case_name, case_of, skipped, failure, junit_of}
 use Rattle.junit_xml.specs.Reading as reading
-use Rattle.junit_xml.specs.Told.{told_of}
+use Rattle.junit_xml.specs.Told.{told_document}
 use lib.Utf8.{encode}
 
 -- Names.
@@ -18,22 +18,22 @@ use lib.Utf8.{encode}
 no_point : class_of (codes "setUpClass (pkg.mod.Test)") ≡ []
 no_point = refl
 
-no_point_name : name_of (codes "setUpClass (pkg.mod.Test)") ≡ codes "setUpClass (pkg.mod.Test)"
+no_point_name : case_name (codes "setUpClass (pkg.mod.Test)") ≡ codes "setUpClass (pkg.mod.Test)"
 no_point_name = refl
 
 points : class_of (codes "pkg.mod.Test.test_a(x.y)[1.5]") ≡ codes "pkg.mod.Test"
 points = refl
 
-points_name : name_of (codes "pkg.mod.Test.test_a(x.y)[1.5]") ≡ codes "test_a(x.y)[1.5]"
+points_name : case_name (codes "pkg.mod.Test.test_a(x.y)[1.5]") ≡ codes "test_a(x.y)[1.5]"
 points_name = refl
 
 bracket : class_of (codes "a.b[c.d](e.f)") ≡ codes "a"
 bracket = refl
 
-point_first : name_of (codes ".foo") ≡ codes ".foo"
+point_first : case_name (codes ".foo") ≡ codes ".foo"
 point_first = refl
 
-point_last : name_of (codes "foo.") ≡ []
+point_last : case_name (codes "foo.") ≡ []
 point_last = refl
 
 -- Characters.
@@ -52,7 +52,7 @@ no_xml : written Value (0 ∷ 27 ∷ 0xFF ∷ 0xE2 ∷ 0x82 ∷ 65 ∷ 0xED ∷ 
 unfolding pieces_from encode
 no_xml = refl
 
-kept : shown (encode_utf8_all (codes "hé € 😀")) ≡ encode_utf8_all (codes "hé € 😀")
+kept : shown_utf8 (encode_utf8_all (codes "hé € 😀")) ≡ encode_utf8_all (codes "hé € 😀")
 unfolding pieces_from encode
 kept = refl
 
@@ -108,7 +108,7 @@ some_text : junit_of some_rows ≡ codes "<?xml version=\"1.0\" encoding=\"utf-8
 unfolding pieces_from encode digits
 some_text = refl
 
-some_read : reading.read_document (junit_of some_rows) ≡ Some (told_of some_rows)
+some_read : reading.read_document (junit_of some_rows) ≡ Some (told_document some_rows)
 unfolding pieces_from encode digits
 some_read = refl
 

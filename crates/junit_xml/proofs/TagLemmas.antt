@@ -8,10 +8,10 @@ use Rattle.std.proofs.lemmas.Bool.{and_parts, and_from, le-leb}
 use Rattle.outcome_fold.specs.declared.row.Ended.{Ended}
 use Rattle.outcome_fold.specs.declared.row.Counts.{Counts}
 use Rattle.outcome_fold.specs.declared.row.Row.{Row}
-use Rattle.junit_xml.specs.declared.escaping.Place.TheVariants.{Text, Value}
-use Rattle.junit_xml.specs.Characters.{shown, written}
-use Rattle.junit_xml.specs.Seconds.{seconds_of}
-use Rattle.junit_xml.specs.Documents.{attribute, class_of, name_of}
+use Rattle.junit_xml.specs.declared.characters.Place.TheVariants.{Text, Value}
+use Rattle.junit_xml.specs.Characters.{shown_utf8, written}
+use Rattle.junit_xml.specs.Seconds.{seconds_text}
+use Rattle.junit_xml.specs.Documents.{attribute, class_of, case_name}
 use Rattle.junit_xml.specs.Reading.{Markup, markup_with, markup_of, markup_in, read_markup, without_values, values_among, with_first, read_values, read_value, read_text, read_tag, tag_of, Tag, begins_suite, begins_case, begins_failure, skips, id_with, heading_with, Heading, read_number, suite_with, failure_named}
 use Rattle.junit_xml.specs.Told.{told_counts}
 use Rattle.junit_xml.proofs.Cuts.{lacks, is_other, all_weaker, all_both, all_pieces_weaker, cut_at, cut_nowhere, cut_joined, joined_all}
@@ -40,7 +40,7 @@ digit_content digit low = is_content_from (48 + digit) (λ is. absurd (omega ari
 pub decimal_content : (n : ℕ) → IsContent (decimal n)
 decimal_content n = decimal_all is_content digit_content n
 
-pub seconds_content : (nanos : Option ℕ) → IsContent (seconds_of nanos)
+pub seconds_content : (nanos : Option ℕ) → IsContent (seconds_text nanos)
 seconds_content nanos = seconds_all is_content digit_content refl nanos
 
 -- numbers and times are read as they stand
@@ -54,8 +54,8 @@ digit_plain digit low = is_other (48 + digit) 38 (λ is. absurd (omega arith))
 decimal_read : (n : ℕ) → read_value (decimal n) ≡ Some (decimal n)
 decimal_read n = plain_read (decimal n) (decimal_all (nat_le 32) digit_wide n) (decimal_all (λ x. not (x == 38)) digit_plain n)
 
-seconds_read : (nanos : Option ℕ) → read_value (seconds_of nanos) ≡ Some (seconds_of nanos)
-seconds_read nanos = plain_read (seconds_of nanos) (seconds_all (nat_le 32) digit_wide refl nanos) (seconds_all (λ x. not (x == 38)) digit_plain refl nanos)
+seconds_read : (nanos : Option ℕ) → read_value (seconds_text nanos) ≡ Some (seconds_text nanos)
+seconds_read nanos = plain_read (seconds_text nanos) (seconds_all (nat_le 32) digit_wide refl nanos) (seconds_all (λ x. not (x == 38)) digit_plain refl nanos)
 
 -- one value more
 first_read : (value : List ℕ) (values : List (List ℕ)) (read : List ℕ) (others : List (List ℕ)) → read_value value ≡ Some read → read_values values ≡ Some others → read_values (value ∷ values) ≡ Some (read ∷ others)
@@ -100,7 +100,7 @@ part_closed piece pieces text content text_content =
 -- Each tag, as the pieces between its quotes.
 
 abbrev pub suite_pieces : Counts → List (List ℕ)
-suite_pieces counts = [] ∷ codes " tests=" ∷ decimal counts.total ∷ codes " failures=" ∷ decimal counts.failed ∷ codes " errors=" ∷ codes "0" ∷ codes " skipped=" ∷ decimal counts.skipped ∷ codes " time=" ∷ seconds_of counts.nanos ∷ [] ∷ []
+suite_pieces counts = [] ∷ codes " tests=" ∷ decimal counts.total ∷ codes " failures=" ∷ decimal counts.failed ∷ codes " errors=" ∷ codes "0" ∷ codes " skipped=" ∷ decimal counts.skipped ∷ codes " time=" ∷ seconds_text counts.nanos ∷ [] ∷ []
 
 abbrev pub suite_part : Counts → List ℕ
 suite_part counts = join_with_byte 34 (codes "testsuite name=" ∷ suite_pieces counts) ++ 62 ∷ 10 ∷ []
@@ -113,17 +113,17 @@ pub suite_closed : (counts : Counts) → lacks (λ b. b == 60) (suite_part count
 suite_closed counts = part_closed (codes "testsuite name=") (suite_pieces counts) (10 ∷ []) (suite_content counts) refl
 
 -- counts below 2^64
-pub record AreShort (counts : Counts) : Type 0 where
+pub record AreSmallCounts (counts : Counts) : Type 0 where
   pub total : counts.total < 2 ^ 64
   pub failed : counts.failed < 2 ^ 64
   pub skipped : counts.skipped < 2 ^ 64
 
-pub suite_read : (counts : Counts) → AreShort counts → read_tag (suite_part counts) ≡ Some (begins_suite (told_counts counts))
+pub suite_read : (counts : Counts) → AreSmallCounts counts → read_tag (suite_part counts) ≡ Some (begins_suite (told_counts counts))
 suite_read counts short =
     let tests = decimal counts.total in
     let failures = decimal counts.failed in
     let skips = decimal counts.skipped in
-    let seconds = seconds_of counts.nanos in
+    let seconds = seconds_text counts.nanos in
     let later : read_values (codes "0" ∷ skips ∷ seconds ∷ []) ≡ Some (codes "0" ∷ skips ∷ seconds ∷ []) =
     three_read (codes "0") skips seconds (codes "0") skips seconds refl (decimal_read counts.skipped) (seconds_read counts.nanos) in
     let values : read_values (values_among (codes "testsuite name=" ∷ suite_pieces counts)) ≡ Some ([] ∷ tests ∷ failures ∷ codes "0" ∷ skips ∷ seconds ∷ []) =
@@ -136,24 +136,24 @@ suite_read counts short =
     ∙ ap (λ o. option_map begins_suite (heading_with (Some counts.total) (Some counts.failed) o seconds)) (number_read counts.skipped short.skipped)
 
 abbrev pub case_pieces : Row → List (List ℕ)
-case_pieces row = written Value (class_of row.id) ∷ codes " name=" ∷ written Value (name_of row.id) ∷ codes " time=" ∷ seconds_of row.nanos ∷ [] ∷ []
+case_pieces row = written Value (class_of row.id) ∷ codes " name=" ∷ written Value (case_name row.id) ∷ codes " time=" ∷ seconds_text row.nanos ∷ [] ∷ []
 
 abbrev pub case_part : Row → List ℕ
 case_part row = join_with_byte 34 (codes "testcase classname=" ∷ case_pieces row) ++ 62 ∷ 10 ∷ []
 
 case_content : (row : Row) → list_all (list_all is_content) (codes "testcase classname=" ∷ case_pieces row) ≡ true
 case_content row =
-    and_from _ _ (content_written Value (class_of row.id)) (and_from _ _ (content_written Value (name_of row.id)) (and_from _ _ (seconds_content row.nanos) refl))
+    and_from _ _ (content_written Value (class_of row.id)) (and_from _ _ (content_written Value (case_name row.id)) (and_from _ _ (seconds_content row.nanos) refl))
 
 pub case_closed : (row : Row) → lacks (λ b. b == 60) (case_part row) ≡ true
 case_closed row = part_closed (codes "testcase classname=") (case_pieces row) (10 ∷ []) (case_content row) refl
 
-pub case_read : (row : Row) → read_tag (case_part row) ≡ Some (begins_case (id_with (shown (class_of row.id)) (shown (name_of row.id))) (seconds_of row.nanos))
+pub case_read : (row : Row) → read_tag (case_part row) ≡ Some (begins_case (id_with (shown_utf8 (class_of row.id)) (shown_utf8 (case_name row.id))) (seconds_text row.nanos))
 case_read row =
-    let values : read_values (values_among (codes "testcase classname=" ∷ case_pieces row)) ≡ Some (shown (class_of row.id) ∷ shown (name_of row.id) ∷ seconds_of row.nanos ∷ []) =
-    three_read (written Value (class_of row.id)) (written Value (name_of row.id)) (seconds_of row.nanos) (shown (class_of row.id)) (shown (name_of row.id)) (seconds_of row.nanos)
-    (value_read (class_of row.id)) (value_read (name_of row.id)) (seconds_read row.nanos) in
-    tag_read (codes "testcase classname=") (case_pieces row) (10 ∷ []) (shown (class_of row.id) ∷ shown (name_of row.id) ∷ seconds_of row.nanos ∷ []) (10 ∷ []) (case_content row) refl values refl
+    let values : read_values (values_among (codes "testcase classname=" ∷ case_pieces row)) ≡ Some (shown_utf8 (class_of row.id) ∷ shown_utf8 (case_name row.id) ∷ seconds_text row.nanos ∷ []) =
+    three_read (written Value (class_of row.id)) (written Value (case_name row.id)) (seconds_text row.nanos) (shown_utf8 (class_of row.id)) (shown_utf8 (case_name row.id)) (seconds_text row.nanos)
+    (value_read (class_of row.id)) (value_read (case_name row.id)) (seconds_read row.nanos) in
+    tag_read (codes "testcase classname=") (case_pieces row) (10 ∷ []) (shown_utf8 (class_of row.id) ∷ shown_utf8 (case_name row.id) ∷ seconds_text row.nanos ∷ []) (10 ∷ []) (case_content row) refl values refl
 
 abbrev pub failure_part : List ℕ → List ℕ → List ℕ
 failure_part kind text = join_with_byte 34 (codes "failure type=" ∷ kind ∷ [] ∷ []) ++ 62 ∷ written Text text
@@ -164,10 +164,10 @@ failure_content kind content = and_from _ _ content refl
 pub failure_closed : (kind text : List ℕ) → IsContent kind → lacks (λ b. b == 60) (failure_part kind text) ≡ true
 failure_closed kind text content = part_closed (codes "failure type=") (kind ∷ [] ∷ []) (written Text text) (failure_content kind content) (content_written Text text)
 
-pub failure_read : (kind text : List ℕ) (how : Ended) → IsContent kind → read_value kind ≡ Some kind → failure_named kind ≡ Some how → read_tag (failure_part kind text) ≡ Some (begins_failure how (shown text))
+pub failure_read : (kind text : List ℕ) (how : Ended) → IsContent kind → read_value kind ≡ Some kind → failure_named kind ≡ Some how → read_tag (failure_part kind text) ≡ Some (begins_failure how (shown_utf8 text))
 failure_read kind text how content kind_read named =
-    tag_read (codes "failure type=") (kind ∷ [] ∷ []) (written Text text) (kind ∷ []) (shown text) (failure_content kind content) (content_written Text text) (one_read kind kind kind_read) (text_read text)
-    ∙ ap (option_map (λ h. begins_failure h (shown text))) named
+    tag_read (codes "failure type=") (kind ∷ [] ∷ []) (written Text text) (kind ∷ []) (shown_utf8 text) (failure_content kind content) (content_written Text text) (one_read kind kind kind_read) (text_read text)
+    ∙ ap (option_map (λ h. begins_failure h (shown_utf8 text))) named
 
 abbrev pub skip_part : List ℕ → List ℕ
 skip_part reason = join_with_byte 34 (codes "skipped message=" ∷ written Value reason ∷ codes "/" ∷ []) ++ 62 ∷ 10 ∷ []
@@ -178,6 +178,6 @@ skip_content reason = and_from _ _ (content_written Value reason) refl
 pub skip_closed : (reason : List ℕ) → lacks (λ b. b == 60) (skip_part reason) ≡ true
 skip_closed reason = part_closed (codes "skipped message=") (written Value reason ∷ codes "/" ∷ []) (10 ∷ []) (skip_content reason) refl
 
-pub skip_read : (reason : List ℕ) → read_tag (skip_part reason) ≡ Some (skips (shown reason))
+pub skip_read : (reason : List ℕ) → read_tag (skip_part reason) ≡ Some (skips (shown_utf8 reason))
 skip_read reason =
-    tag_read (codes "skipped message=") (written Value reason ∷ codes "/" ∷ []) (10 ∷ []) (shown reason ∷ []) (10 ∷ []) (skip_content reason) refl (one_read (written Value reason) (shown reason) (value_read reason)) refl
+    tag_read (codes "skipped message=") (written Value reason ∷ codes "/" ∷ []) (10 ∷ []) (shown_utf8 reason ∷ []) (10 ∷ []) (skip_content reason) refl (one_read (written Value reason) (shown_utf8 reason) (value_read reason)) refl

@@ -8,8 +8,8 @@ use Rattle.std.proofs.lemmas.List.{append-nil, take_at, take_all, get_or-drop, d
 use Rattle.bstr.specs.Utf8.{Decoded, good, decoded, or_replacement, replacement, lossy_chars}
 use Rattle.bstr.proofs.lemmas.PieceLemmas.{value-1, piece-bounds, lossy_chars-step, lossy_chars-nil}
 use Rattle.bstr.proofs.lemmas.SoundLemmas.{SpellsChar-decoded}
-use Rattle.junit_xml.specs.declared.escaping.Place.{Place}
-use Rattle.junit_xml.specs.declared.escaping.Place.TheVariants as place
+use Rattle.junit_xml.specs.declared.characters.Place.{Place}
+use Rattle.junit_xml.specs.declared.characters.Place.TheVariants as place
 use Rattle.junit_xml.specs.Characters.{escape, written_char, written}
 use Rattle.junit_xml.proofs.CharacterLemmas.{spelled_some}
 use lib.Utf8.{encode}

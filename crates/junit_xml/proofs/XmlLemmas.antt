@@ -14,11 +14,11 @@ use Rattle.outcome_fold.specs.declared.row.Ended.TheVariants as ended
 use Rattle.outcome_fold.specs.declared.row.Row.{Row}
 use Rattle.outcome_fold.specs.declared.row.Counts.{Counts}
 use Rattle.outcome_fold.specs.Answers.{is_run, counts_of}
-use Rattle.junit_xml.specs.declared.escaping.Place.{Place}
-use Rattle.junit_xml.specs.declared.escaping.Place.TheVariants.{Text, Value}
+use Rattle.junit_xml.specs.declared.characters.Place.{Place}
+use Rattle.junit_xml.specs.declared.characters.Place.TheVariants.{Text, Value}
 use Rattle.junit_xml.specs.Characters.{is_xml_char, written_char, written}
-use Rattle.junit_xml.specs.Seconds.{seconds_of}
-use Rattle.junit_xml.specs.Documents.{attribute, tag, tag_line, class_of, name_of, case_begin, failure, skipped, inside_of, case_text, case_of, declaration, suite_begin, head_of, tail_text, junit_of}
+use Rattle.junit_xml.specs.Seconds.{seconds_text}
+use Rattle.junit_xml.specs.Documents.{attribute, tag, tag_line, class_of, case_name, case_begin, failure, skipped, inside_of, case_text, case_of, declaration, suite_begin, head_of, tail_text, junit_of}
 use Rattle.junit_xml.specs.Told.{IsXmlText}
 use Rattle.junit_xml.proofs.CharacterLemmas.{by_char}
 use Rattle.junit_xml.proofs.NameLemmas.{encoded_append}
@@ -64,8 +64,8 @@ digit_xml digit low = grind (arith, nat_tests)
 decimal_xml : (n : ℕ) → IsXmlText (decimal n)
 decimal_xml n = plain_xml (decimal n) (decimal_all is_plain_xml digit_xml n)
 
-seconds_xml : (nanos : Option ℕ) → IsXmlText (seconds_of nanos)
-seconds_xml nanos = plain_xml (seconds_of nanos) (seconds_all is_plain_xml digit_xml refl nanos)
+seconds_xml : (nanos : Option ℕ) → IsXmlText (seconds_text nanos)
+seconds_xml nanos = plain_xml (seconds_text nanos) (seconds_all is_plain_xml digit_xml refl nanos)
 
 -- what is written of bytes
 
@@ -122,14 +122,14 @@ inside_xml ended.Open text reason = failure_xml (codes "unfinished") text refl
 begin_xml : (row : Row) → IsXmlText (case_begin row)
 begin_xml row =
     let class = attribute (codes "classname") (written Value (class_of row.id)) in
-    let name = attribute (codes "name") (written Value (name_of row.id)) in
-    let time = attribute (codes "time") (seconds_of row.nanos) in
+    let name = attribute (codes "name") (written Value (case_name row.id)) in
+    let time = attribute (codes "time") (seconds_text row.nanos) in
     line_xml (codes "testcase" ++ class ++ name ++ time)
     (both_xml (codes "testcase" ++ class ++ name) time
     (both_xml (codes "testcase" ++ class) name
     (both_xml (codes "testcase") class (plain_xml (codes "testcase") refl) (attribute_xml (codes "classname") (written Value (class_of row.id)) refl (written_xml Value (class_of row.id))))
-    (attribute_xml (codes "name") (written Value (name_of row.id)) refl (written_xml Value (name_of row.id))))
-    (attribute_xml (codes "time") (seconds_of row.nanos) refl (seconds_xml row.nanos)))
+    (attribute_xml (codes "name") (written Value (case_name row.id)) refl (written_xml Value (case_name row.id))))
+    (attribute_xml (codes "time") (seconds_text row.nanos) refl (seconds_xml row.nanos)))
 
 case_xml : (row : Row) → IsXmlText (case_text row)
 case_xml row =
@@ -150,7 +150,7 @@ suite_xml counts =
     let failures = attribute (codes "failures") (decimal counts.failed) in
     let errors = attribute (codes "errors") (codes "0") in
     let skips = attribute (codes "skipped") (decimal counts.skipped) in
-    let time = attribute (codes "time") (seconds_of counts.nanos) in
+    let time = attribute (codes "time") (seconds_text counts.nanos) in
     line_xml (front ++ tests ++ failures ++ errors ++ skips ++ time)
     (both_xml (front ++ tests ++ failures ++ errors ++ skips) time
     (both_xml (front ++ tests ++ failures ++ errors) skips
@@ -160,7 +160,7 @@ suite_xml counts =
     (count_xml (codes "failures") counts.failed refl))
     (plain_xml errors refl))
     (count_xml (codes "skipped") counts.skipped refl))
-    (attribute_xml (codes "time") (seconds_of counts.nanos) refl (seconds_xml counts.nanos)))
+    (attribute_xml (codes "time") (seconds_text counts.nanos) refl (seconds_xml counts.nanos)))
 
 pub document_xml : (rows : List Row) → IsXmlText (junit_of rows)
 document_xml rows =

@@ -4,8 +4,8 @@ use Rattle.std.specs.List.{flat_map}
 use Rattle.std.specs.Option.{option_or, unwrap_or}
 use Rattle.std.specs.Str.{encode_utf8_all}
 use Rattle.bstr.specs.Utf8.{replacement, lossy_chars}
-use Rattle.junit_xml.specs.declared.escaping.Place.{Place}
-use Rattle.junit_xml.specs.declared.escaping.Place.TheVariants as place
+use Rattle.junit_xml.specs.declared.characters.Place.{Place}
+use Rattle.junit_xml.specs.declared.characters.Place.TheVariants as place
 
 -- a character that XML 1.0 allows
 abbrev pub is_xml_char : ℕ → Bool
@@ -26,8 +26,8 @@ abbrev pub shown_chars : List ℕ → List ℕ
 shown_chars bytes = map shown_char (lossy_chars bytes)
 
 -- the same as UTF-8
-abbrev pub shown : List ℕ → List ℕ
-shown bytes = encode_utf8_all (shown_chars bytes)
+abbrev pub shown_utf8 : List ℕ → List ℕ
+shown_utf8 bytes = encode_utf8_all (shown_chars bytes)
 
 -- How it is written.
 

@@ -7,9 +7,9 @@ use Rattle.outcome_fold.specs.declared.row.Ended.TheVariants as ended
 use Rattle.outcome_fold.specs.declared.row.Row.{Row}
 use Rattle.outcome_fold.specs.declared.row.Counts.{Counts}
 use Rattle.outcome_fold.specs.Answers.{is_run, counts_of}
-use Rattle.junit_xml.specs.declared.escaping.Place.TheVariants.{Text, Value}
+use Rattle.junit_xml.specs.declared.characters.Place.TheVariants.{Text, Value}
 use Rattle.junit_xml.specs.Characters.{written}
-use Rattle.junit_xml.specs.Seconds.{seconds_of}
+use Rattle.junit_xml.specs.Seconds.{seconds_text}
 
 -- The two names of a test.
 
@@ -34,8 +34,8 @@ abbrev pub class_of : List ℕ → List ℕ
 class_of id = take (class_size id) id
 
 -- The name: what stands behind it. Where the class is empty it is the whole id, with a point that the id begins with.
-abbrev pub name_of : List ℕ → List ℕ
-name_of id = if class_size id == 0 then id else drop (class_size id + 1) id
+abbrev pub case_name : List ℕ → List ℕ
+case_name id = if class_size id == 0 then id else drop (class_size id + 1) id
 
 -- Tags.
 
@@ -57,8 +57,8 @@ tag_line inside = tag inside ++ codes "\n"
 abbrev pub case_begin : Row → List ℕ
 case_begin row = tag_line (codes "testcase"
     ++ attribute (codes "classname") (written Value (class_of row.id))
-    ++ attribute (codes "name") (written Value (name_of row.id))
-    ++ attribute (codes "time") (seconds_of row.nanos))
+    ++ attribute (codes "name") (written Value (case_name row.id))
+    ++ attribute (codes "time") (seconds_text row.nanos))
 
 -- a failure of this kind, with its text
 abbrev pub failure : List ℕ → List ℕ → List ℕ
@@ -100,7 +100,7 @@ suite_begin counts = tag_line (codes "testsuite"
     ++ attribute (codes "failures") (decimal counts.failed)
     ++ attribute (codes "errors") (codes "0")
     ++ attribute (codes "skipped") (decimal counts.skipped)
-    ++ attribute (codes "time") (seconds_of counts.nanos))
+    ++ attribute (codes "time") (seconds_text counts.nanos))
 
 -- what stands in front of the cases
 abbrev pub head_of : Counts → List ℕ

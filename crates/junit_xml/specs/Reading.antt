@@ -39,13 +39,13 @@ read_references [] = Some []
 read_references (piece ∷ pieces) = option_append (read_reference piece) (read_references pieces)
 
 -- a text, cut at each `&`
-abbrev pub text_of : List (List ℕ) → Option (List ℕ)
-text_of [] = None
-text_of (front ∷ pieces) = option_append (Some front) (read_references pieces)
+abbrev pub text_with_references : List (List ℕ) → Option (List ℕ)
+text_with_references [] = None
+text_with_references (front ∷ pieces) = option_append (Some front) (read_references pieces)
 
 -- what is read of a text
 abbrev pub read_text : List ℕ → Option (List ℕ)
-read_text bytes = text_of (slice_split (λ byte. byte == 38) bytes)
+read_text bytes = text_with_references (slice_split (λ byte. byte == 38) bytes)
 
 -- what is read of an attribute's value, in which no control byte stands as it is
 abbrev pub read_value : List ℕ → Option (List ℕ)
@@ -197,18 +197,18 @@ read_tag bytes = option_and_then tag_of (read_markup bytes)
 -- Documents.
 
 -- what a case tells of its test
-pub data Verdict : Type 0 where
-  passed : Verdict
+pub data CaseVerdict : Type 0 where
+  passed : CaseVerdict
   -- why
-  skipped : List ℕ → Verdict
+  skipped : List ℕ → CaseVerdict
   -- how, and the text
-  failed : Ended → List ℕ → Verdict
+  failed : Ended → List ℕ → CaseVerdict
 
 -- what is told of one test
 pub record Case : Type 0 where
   pub id : List ℕ
   pub seconds : List ℕ
-  pub verdict : Verdict
+  pub verdict : CaseVerdict
 
 -- what a document tells
 pub record Document : Type 0 where

@@ -1,20 +1,8 @@
 -- Times in a document (docs/FORMATS.md, "JUnit XML").
-use Rattle.std.specs.Prelude.{ℕ, ◌+◌, ◌/◌, ◌%◌, Option, List, [], ◌∷◌, ◌++◌, codes}
-use Rattle.std.specs.Fmt.{decimal}
+use Rattle.std.specs.Prelude.{ℕ, Option, List}
 use Rattle.std.specs.Option.{unwrap_or}
-
--- nanoseconds in thousandths of a second, halves up
-abbrev pub millis_of : ℕ → ℕ
-millis_of nanos = (nanos + 500000) / 1000000
-
--- a number below 1000 in three digits
-abbrev pub three_digits : ℕ → List ℕ
-three_digits n = (48 + n / 100) ∷ (48 + n / 10 % 10) ∷ (48 + n % 10) ∷ []
-
--- nanoseconds in seconds with three places
-abbrev pub printed_seconds : ℕ → List ℕ
-printed_seconds nanos = decimal (millis_of nanos / 1000) ++ codes "." ++ three_digits (millis_of nanos % 1000)
+use Rattle.sub_number.specs.Seconds.{printed_seconds}
 
 -- the time, which is zero where none is known
-abbrev pub seconds_of : Option ℕ → List ℕ
-seconds_of nanos = printed_seconds (unwrap_or nanos 0)
+abbrev pub seconds_text : Option ℕ → List ℕ
+seconds_text nanos = printed_seconds (unwrap_or nanos 0)

@@ -7,31 +7,31 @@ use Rattle.outcome_fold.specs.declared.row.Ended.TheVariants as ended
 use Rattle.outcome_fold.specs.declared.row.Row.{Row}
 use Rattle.outcome_fold.specs.declared.row.Counts.{Counts}
 use Rattle.outcome_fold.specs.Answers.{is_run, counts_of}
-use Rattle.junit_xml.specs.Characters.{is_xml_char, shown}
-use Rattle.junit_xml.specs.Seconds.{seconds_of}
-use Rattle.junit_xml.specs.Reading.{Verdict, passed, skipped, failed, Heading, Case, Document}
+use Rattle.junit_xml.specs.Characters.{is_xml_char, shown_utf8}
+use Rattle.junit_xml.specs.Seconds.{seconds_text}
+use Rattle.junit_xml.specs.Reading.{CaseVerdict, passed, skipped, failed, Heading, Case, Document}
 
 -- What is told of how a test ended. Of one that passed no text is told, nor of one that was expected to fail and did.
-abbrev pub verdict_of : Ended → (text reason : List ℕ) → Verdict
-verdict_of ended.Exists text reason = passed
-verdict_of ended.Success text reason = passed
-verdict_of ended.UxSuccess text reason = failed ended.UxSuccess (shown text)
-verdict_of ended.Skip text reason = skipped (shown reason)
-verdict_of ended.Fail text reason = failed ended.Fail (shown text)
-verdict_of ended.XFail text reason = passed
-verdict_of ended.Open text reason = failed ended.Open (shown text)
+abbrev pub case_verdict : Ended → (text reason : List ℕ) → CaseVerdict
+case_verdict ended.Exists text reason = passed
+case_verdict ended.Success text reason = passed
+case_verdict ended.UxSuccess text reason = failed ended.UxSuccess (shown_utf8 text)
+case_verdict ended.Skip text reason = skipped (shown_utf8 reason)
+case_verdict ended.Fail text reason = failed ended.Fail (shown_utf8 text)
+case_verdict ended.XFail text reason = passed
+case_verdict ended.Open text reason = failed ended.Open (shown_utf8 text)
 
 -- what the case of a row tells, its id and its texts in characters that XML 1.0 allows
 abbrev pub told_case : Row → Case
-told_case row = record { id = shown row.id; seconds = seconds_of row.nanos; verdict = verdict_of row.ended row.text row.reason }
+told_case row = record { id = shown_utf8 row.id; seconds = seconds_text row.nanos; verdict = case_verdict row.ended row.text row.reason }
 
 -- what the suite of a document tells of its counts
 abbrev pub told_counts : Counts → Heading
-told_counts counts = record { tests = counts.total; failures = counts.failed; skipped = counts.skipped; seconds = seconds_of counts.nanos }
+told_counts counts = record { tests = counts.total; failures = counts.failed; skipped = counts.skipped; seconds = seconds_text counts.nanos }
 
 -- what is told of rows: their counts, and each row that is not `Exists`, in their order
-abbrev pub told_of : List Row → Document
-told_of rows = record { heading = told_counts (counts_of [] rows); cases = map told_case (filter is_run rows) }
+abbrev pub told_document : List Row → Document
+told_document rows = record { heading = told_counts (counts_of [] rows); cases = map told_case (filter is_run rows) }
 
 -- UTF-8 of characters that XML 1.0 allows
 abbrev pub IsXmlText : List ℕ → Type 0

@@ -4,12 +4,12 @@ ghost use Rattle.std.specs.Prelude.{◌≡◌, [], ◌++◌, take, length, codes
 ghost use Rattle.std.specs.List.{flat_map};
 ghost use Rattle.std.specs.Fmt.{decimal};
 ghost use Rattle.outcome_fold.specs.Answers.{is_run, counts_of};
-ghost use Rattle.junit_xml.specs.declared.escaping.Place.TheVariants.{Value};
+ghost use Rattle.sub_number.specs.Seconds.{printed_seconds};
+ghost use Rattle.junit_xml.specs.declared.characters.Place.TheVariants.{Value};
 ghost use Rattle.junit_xml.specs.Characters.{written};
-ghost use Rattle.junit_xml.specs.Seconds.{printed_seconds};
 ghost use Rattle.junit_xml.specs.Documents as spec;
 
-use crate::escaping::{Place, put_value, put_written};
+use crate::characters::{Place, put_value, put_written};
 use crate::names::names_of;
 use crate::seconds::{put_all_seconds, put_seconds};
 use itoa::Buffer;

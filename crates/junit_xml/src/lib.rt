@@ -7,13 +7,13 @@
 //!
 //! - `document`: the tags of a document
 //! - `names`: the two names of a test
-//! - `escaping`: bytes as characters of a document
+//! - `characters`: bytes as characters of a document
 //! - `seconds`: times in seconds
 //! - `laws`: a document tells its rows, and is well-formed, whatever their ids and texts are
 #![tactic(auto)]
 
+mod characters;
 mod document;
-mod escaping;
 mod laws;
 mod names;
 mod seconds;

@@ -29,7 +29,7 @@ fn class_size(id: &[u8]) -> usize
 /// The class and the name of the test of this id.
 pub(crate) fn names_of(id: &[u8]) -> (&[u8], &[u8])
     ensures class { result.0.now ≡ spec.class_of id.now }
-    ensures name { result.1.now ≡ spec.name_of id.now }
+    ensures name { result.1.now ≡ spec.case_name id.now }
 {
     let size = class_size(id);
     if size == 0 {

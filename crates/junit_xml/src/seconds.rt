@@ -1,7 +1,7 @@
 //! Seconds with three places.
 
 ghost use Rattle.std.specs.Prelude.{◌≡◌, ◌++◌, ◌<◌, take, length, codes, OnOk};
-ghost use Rattle.junit_xml.specs.Seconds.{millis_of, three_digits, printed_seconds};
+ghost use Rattle.sub_number.specs.Seconds.{millis_of, three_digits, printed_seconds};
 
 use itoa::Buffer;
 use sub_number::NoMemory;

@@ -13,10 +13,10 @@ use Rattle.outcome_fold.proofs.TableLemmas.{tied_is}
 use Rattle.outcome_fold.proofs.OrderLemmas.{texts_total, exact_texts}
 use Rattle.last_failures.specs.declared.failures.Failure.{Failure}
 use Rattle.last_failures.specs.Last.{is_failure_of, or_this, last_failure}
-use Rattle.last_failures.specs.Looking.{Found, with_packets}
+use Rattle.last_failures.specs.Looking.{HasLookedUp, with_packets}
 
 -- nothing was looked at
-pub none_found : (ids missing : List (List ℕ)) (found : FinMap text_cmp Failure) → missing ≡ in_byte_order ids → found ≡ fin.empty → Found ids [] missing found
+pub none_found : (ids missing : List (List ℕ)) (found : FinMap text_cmp Failure) → missing ≡ in_byte_order ids → found ≡ fin.empty → HasLookedUp ids [] missing found
 none_found ids missing found all none = record {
   missing_are = λ id has. ap (λ l. among l id) all ∙ among_order ids id ∙ has;
   found_are = λ id has. ap (λ m. fin.get m id) none ∙ get-empty text_cmp id;
@@ -34,7 +34,7 @@ same_row id failure missing None at not_so = by (row_fails failure.row) (eq_by_c
         let there : among missing failure.row.id ≡ true = ap (among missing) (sym (tied_is exact_texts id failure.row.id same_is)) ∙ at in
         absurd (true≢false (sym (λ i. fails_is i && there i) ∙ not_so))
 
-pub passed_by : (ids : List (List ℕ)) (later : List Failure) (failure : Failure) (missing : List (List ℕ)) (found : FinMap text_cmp Failure) → (row_fails failure.row && among missing failure.row.id) ≡ false → Found ids later missing found → Found ids (failure ∷ later) missing found
+pub passed_by : (ids : List (List ℕ)) (later : List Failure) (failure : Failure) (missing : List (List ℕ)) (found : FinMap text_cmp Failure) → (row_fails failure.row && among missing failure.row.id) ≡ false → HasLookedUp ids later missing found → HasLookedUp ids (failure ∷ later) missing found
 passed_by ids later failure missing found not_so before =
     let same : (id : List ℕ) → among ids id ≡ true → last_failure (failure ∷ later) id ≡ last_failure later id = λ id has. same_row id failure missing (last_failure later id) (before.missing_are id has) not_so in
     record {
@@ -69,13 +69,13 @@ module _ (failure : Failure) (missing : List (List ℕ)) (found : FinMap text_cm
     get-insert texts_total found failure.row.id failure id ∙ ap (λ b. cond b (Some failure) (fin.get found id)) same ∙ got ∙ sym (other_row (row_fails failure.row) later failure),
   )
 
-  kept_row : (ids : List (List ℕ)) (later : List Failure) → Found ids later missing found → Found ids (failure ∷ later) (without missing (failure.row.id ∷ [])) (fin.insert found failure.row.id failure)
+  kept_row : (ids : List (List ℕ)) (later : List Failure) → HasLookedUp ids later missing found → HasLookedUp ids (failure ∷ later) (without missing (failure.row.id ∷ [])) (fin.insert found failure.row.id failure)
   kept_row ids later before = record {
     missing_are = λ id has. (kept_at id (eq_by_cmp text_cmp id failure.row.id) refl (last_failure later id) (before.missing_are id has) (before.found_are id has)).0;
     found_are = λ id has. (kept_at id (eq_by_cmp text_cmp id failure.row.id) refl (last_failure later id) (before.missing_are id has) (before.found_are id has)).1;
   }
 
-kept_failure : (ids : List (List ℕ)) (later : List Failure) (failure : Failure) (missing kept_missing : List (List ℕ)) (found kept : FinMap text_cmp Failure) → (row_fails failure.row && among missing failure.row.id) ≡ true → kept_missing ≡ without missing (failure.row.id ∷ []) → kept ≡ fin.insert found failure.row.id failure → Found ids later missing found → Found ids (failure ∷ later) kept_missing kept
+kept_failure : (ids : List (List ℕ)) (later : List Failure) (failure : Failure) (missing kept_missing : List (List ℕ)) (found kept : FinMap text_cmp Failure) → (row_fails failure.row && among missing failure.row.id) ≡ true → kept_missing ≡ without missing (failure.row.id ∷ []) → kept ≡ fin.insert found failure.row.id failure → HasLookedUp ids later missing found → HasLookedUp ids (failure ∷ later) kept_missing kept
 kept_failure ids later failure missing kept_missing found kept so missing_is kept_is before =
     let is = both_true (row_fails failure.row) (among missing failure.row.id) so in
     let now = kept_row failure missing found is.0 is.1 ids later before in
@@ -84,7 +84,7 @@ kept_failure ids later failure missing kept_missing found kept so missing_is kep
       found_are = λ id has. ap (λ m. fin.get m id) kept_is ∙ now.found_are id has;
     }
 
-pub kept_by : (ids : List (List ℕ)) (later : List Failure) (row : Row) (held : List ℕ) (packets : Row → List ℕ) (missing kept_missing : List (List ℕ)) (found kept : FinMap text_cmp Failure) → (row_fails row && among missing row.id) ≡ true → kept_missing ≡ without missing (row.id ∷ []) → kept ≡ fin.insert found row.id (record { row = row; packets = held }) → (among missing row.id ≡ true → held ≡ packets row) → Found ids later missing found → Found ids (with_packets packets row ∷ later) kept_missing kept
+pub kept_by : (ids : List (List ℕ)) (later : List Failure) (row : Row) (held : List ℕ) (packets : Row → List ℕ) (missing kept_missing : List (List ℕ)) (found kept : FinMap text_cmp Failure) → (row_fails row && among missing row.id) ≡ true → kept_missing ≡ without missing (row.id ∷ []) → kept ≡ fin.insert found row.id (record { row = row; packets = held }) → (among missing row.id ≡ true → held ≡ packets row) → HasLookedUp ids later missing found → HasLookedUp ids (with_packets packets row ∷ later) kept_missing kept
 kept_by ids later row held packets missing kept_missing found kept so missing_is kept_is held_are before =
     let is = both_true (row_fails row) (among missing row.id) so in
     let failure : held ≡ packets row = held_are is.1 in
@@ -105,7 +105,7 @@ stays : (front later : List Failure) (id : List ℕ) (o : Option Failure) → la
 stays front later id None is some = absurd (true≢false some)
 stays front later id (Some failure) is some = some_stays front later id failure is ∙ sym is
 
-pub done_before : (ids : List (List ℕ)) (front later : List Failure) (missing : List (List ℕ)) (found : FinMap text_cmp Failure) → ((id : List ℕ) → among missing id ≡ false) → Found ids later missing found → Found ids (front ++ later) missing found
+pub done_before : (ids : List (List ℕ)) (front later : List Failure) (missing : List (List ℕ)) (found : FinMap text_cmp Failure) → ((id : List ℕ) → among missing id ≡ false) → HasLookedUp ids later missing found → HasLookedUp ids (front ++ later) missing found
 done_before ids front later missing found none before =
     let same : (id : List ℕ) → among ids id ≡ true → last_failure (front ++ later) id ≡ last_failure later id = λ id has. stays front later id (last_failure later id) refl (sym (before.missing_are id has) ∙ none id) in
     record {
@@ -124,8 +124,8 @@ ok_then (Ok done) m next = next m
 ok_then (Err fault) m next = tt
 
 -- no row was looked at yet, and one more in front of the others
-pub none_looked : (ids : List (List ℕ)) (rows : List Row) (packets : Row → List ℕ) (later : List Failure) (place : ℕ) (missing : List (List ℕ)) (found : FinMap text_cmp Failure) → length rows ≤ place → Found ids later missing found → Found ids (map (with_packets packets) (drop place rows) ++ later) missing found
-none_looked ids rows packets later place missing found past before = subst (λ (l : List Row). Found ids (map (with_packets packets) l ++ later) missing found) (sym (drop_all place rows past)) before
+pub none_looked : (ids : List (List ℕ)) (rows : List Row) (packets : Row → List ℕ) (later : List Failure) (place : ℕ) (missing : List (List ℕ)) (found : FinMap text_cmp Failure) → length rows ≤ place → HasLookedUp ids later missing found → HasLookedUp ids (map (with_packets packets) (drop place rows) ++ later) missing found
+none_looked ids rows packets later place missing found past before = subst (λ (l : List Row). HasLookedUp ids (map (with_packets packets) l ++ later) missing found) (sym (drop_all place rows past)) before
 
 pub row_in_front : (rows : List Row) (packets : Row → List ℕ) (later : List Failure) (place next : ℕ) (row : Row) → place ≡ next + 1 → next < length rows → drop next rows ≡ row ∷ drop (next + 1) rows → with_packets packets row ∷ (map (with_packets packets) (drop place rows) ++ later) ≡ map (with_packets packets) (drop next rows) ++ later
 row_in_front rows packets later place next row is below here = ap (λ n. with_packets packets row ∷ (map (with_packets packets) (drop n rows) ++ later)) is ∙ sym (ap (λ l. map (with_packets packets) l ++ later) here)

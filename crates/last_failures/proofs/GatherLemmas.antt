@@ -19,10 +19,10 @@ use Rattle.run_shelf.specs.Repository.{Run, run_at}
 use Rattle.run_shelf.proofs.ReadingLemmas.{same_state}
 use Rattle.run_shelf.proofs.RunLemmas.{taken_before}
 use Rattle.run_ledger.specs.Costs.{bytes_asked, ReadsOnce}
-use Rattle.last_failures.specs.declared.gathering.Gathered.{Gathered}
+use Rattle.last_failures.specs.declared.gathered_parts.GatheredParts.{GatheredParts}
 use Rattle.last_failures.specs.declared.parts.FailedParts.{FailedParts}
 use Rattle.last_failures.specs.declared.run_parts.RunParts.{RunParts}
-use Rattle.last_failures.specs.Gathering.{HasParts, HasGathered, NoteFits, GathersNotes, HasReadBytes, IsGatheredOf, HasFront, HasReadTo, TakesPiece, ReadsOn, HasReadWhole}
+use Rattle.last_failures.specs.Gathering.{HasParts, HasGatheredParts, NoteFits, GathersParts, HasPartsOfBytes, IsGatheredOf, HasPartsOfFront, HasPartsTo, TakesPartsPiece, ReadsPartsOn, HasPartsOfRun}
 use Rattle.last_failures.proofs.PartLemmas.{passes, held_for}
 
 -- ---- one note
@@ -38,25 +38,25 @@ foreign_passes wanted seen bytes parts has = passes wanted seen (event_of (note.
 
 -- ---- all notes
 
-pub gathers_none : (wanted : List (List ℕ)) (notes : List Note) (held : Held) (gathered : Gathered) → HasGathered wanted gathered (events_of notes) → GathersNotes wanted notes held held gathered
+pub gathers_none : (wanted : List (List ℕ)) (notes : List Note) (held : Held) (gathered : GatheredParts) → HasGatheredParts wanted gathered (events_of notes) → GathersParts wanted notes held held gathered
 gathers_none wanted notes held gathered is = record { all = notes; given = notes_none held notes; gathered_is = is }
 
-pub gathers_more : (wanted : List (List ℕ)) (notes : List Note) (before held after : Held) (old new : Gathered) (next : Note)
-    → GathersNotes wanted notes before held old → GivesNote held next after → after.ended ≡ held.ended
-    → ((seen : List Event) → HasGathered wanted old seen → HasGathered wanted new (seen ++ event_of next ∷ []))
-    → GathersNotes wanted notes before after new
+pub gathers_more : (wanted : List (List ℕ)) (notes : List Note) (before held after : Held) (old new : GatheredParts) (next : Note)
+    → GathersParts wanted notes before held old → GivesNote held next after → after.ended ≡ held.ended
+    → ((seen : List Event) → HasGatheredParts wanted old seen → HasGatheredParts wanted new (seen ++ event_of next ∷ []))
+    → GathersParts wanted notes before after new
 gathers_more wanted notes before held after old new next so_far gives same step = record {
   all = so_far.all ++ next ∷ [];
   given = notes_more before held after notes so_far.all next so_far.given gives same;
-  gathered_is = subst (HasGathered wanted new) (sym (map-append event_of so_far.all (next ∷ []))) (step (events_of so_far.all) so_far.gathered_is);
+  gathered_is = subst (HasGatheredParts wanted new) (sym (map-append event_of so_far.all (next ∷ []))) (step (events_of so_far.all) so_far.gathered_is);
 }
 
 -- ---- a run
 
 pub piece_gathered : {T E : Type 0} (r : Result T E) (wanted : List (List ℕ)) (bytes piece : List ℕ) (run new : RunParts) (held : Held)
-    → AreBytes piece → HasReadBytes wanted run bytes → held ≡ record { bytes = run.reader.bytes ++ piece; ended = false }
-    → ((notes : List Note) → HasGathered wanted run.gathered (events_of notes) → OnOk r (GathersNotes wanted notes held new.reader new.gathered))
-    → OnOk r (HasReadBytes wanted new (bytes ++ piece))
+    → AreBytes piece → HasPartsOfBytes wanted run bytes → held ≡ record { bytes = run.reader.bytes ++ piece; ended = false }
+    → ((notes : List Note) → HasGatheredParts wanted run.gathered (events_of notes) → OnOk r (GathersParts wanted notes held new.reader new.gathered))
+    → OnOk r (HasPartsOfBytes wanted new (bytes ++ piece))
 piece_gathered (Err e) wanted bytes piece run new held are has held-is step = tt
 piece_gathered (Ok x) wanted bytes piece run new held are has held-is step =
     let gathers = step has.notes has.gathered_is in
@@ -66,11 +66,11 @@ piece_gathered (Ok x) wanted bytes piece run new held are has held-is step =
       gathered_is = gathers.gathered_is;
     }
 
-pub gathered_at_end : (wanted : List (List ℕ)) (bytes : List ℕ) (run : RunParts) (held after : Held) (gathered : Gathered) (rows : List Row)
-    → HasReadBytes wanted run bytes → held ≡ record { bytes = run.reader.bytes; ended = true }
-    → ((notes : List Note) → HasGathered wanted run.gathered (events_of notes) → GathersNotes wanted notes held after gathered)
+pub gathered_at_end : (wanted : List (List ℕ)) (bytes : List ℕ) (run : RunParts) (held after : Held) (gathered : GatheredParts) (rows : List Row)
+    → HasPartsOfBytes wanted run bytes → held ≡ record { bytes = run.reader.bytes; ended = true }
+    → ((notes : List Note) → HasGatheredParts wanted run.gathered (events_of notes) → GathersParts wanted notes held after gathered)
     → IsSpent after.ended after.bytes
-    → ((events : List Event) → HasGathered wanted gathered events → rows ≡ rows_of events)
+    → ((events : List Event) → HasGatheredParts wanted gathered events → rows ≡ rows_of events)
     → IsGatheredOf wanted (record { rows = rows; parts = gathered.parts }) bytes
 gathered_at_end wanted bytes run held after gathered rows has held-is step spent close =
     let gathers = step has.notes has.gathered_is in
@@ -86,25 +86,25 @@ gathered_at_end wanted bytes run held after gathered rows has held-is step spent
 -- ---- a run of a folder, piece by piece
 
 -- nothing was read of a run that there is
-pub read_none : (state : Option Folder) (kinds : List Bool) (wanted : List (List ℕ)) (number place : ℕ) (run : RunParts) → place ≡ 0 → number < length kinds → HasReadBytes wanted run [] → IfSome state (FitsFolder kinds) → IfSome state (HasReadTo wanted number place run)
+pub read_none : (state : Option Folder) (kinds : List Bool) (wanted : List (List ℕ)) (number place : ℕ) (run : RunParts) → place ≡ 0 → number < length kinds → HasPartsOfBytes wanted run [] → IfSome state (FitsFolder kinds) → IfSome state (HasPartsTo wanted number place run)
 read_none None kinds wanted number place run zero known fresh fits = tt
 read_none (Some s) kinds wanted number place run zero known fresh fits = there (run_at s.disk.published number) (taken_before s.disk.published kinds fits.kinds_are number known)
   where
-    there : (o : Option Run) → IsSome o → IsSomeAnd o (HasFront wanted place run)
+    there : (o : Option Run) → IsSome o → IsSomeAnd o (HasPartsOfFront wanted place run)
     there None is = cc
-    there (Some r) is = (omega (arith, zero), subst (λ (n : ℕ). HasReadBytes wanted run (take n r.bytes)) (sym zero) fresh)
+    there (Some r) is = (omega (arith, zero), subst (λ (n : ℕ). HasPartsOfBytes wanted run (take n r.bytes)) (sym zero) fresh)
 
-module _ (wanted : List (List ℕ)) (place room count : ℕ) (old new : RunParts) (r : Run) (front : HasFront wanted place old r) (more : TakesPiece wanted place room count old new r) where
-  front_more : (next : ℕ) → next ≡ place + room → room ≤ count → HasFront wanted next new r
+module _ (wanted : List (List ℕ)) (place room count : ℕ) (old new : RunParts) (r : Run) (front : HasPartsOfFront wanted place old r) (more : TakesPartsPiece wanted place room count old new r) where
+  front_more : (next : ℕ) → next ≡ place + room → room ≤ count → HasPartsOfFront wanted next new r
   front_more next is full = (
     omega (arith, is, full, more.size, length-take room (drop place r.bytes), length-drop place r.bytes, front.0),
-    subst (HasReadBytes wanted new) (sym (take-add place room r.bytes) ∙ ap (λ (n : ℕ). take n r.bytes) (sym is)) (more.read (take place r.bytes) front.1),
+    subst (HasPartsOfBytes wanted new) (sym (take-add place room r.bytes) ∙ ap (λ (n : ℕ). take n r.bytes) (sym is)) (more.read (take place r.bytes) front.1),
   )
 
-  front_whole : count < room → HasReadBytes wanted new r.bytes
+  front_whole : count < room → HasPartsOfBytes wanted new r.bytes
   front_whole less =
       let rest : take room (drop place r.bytes) ≡ drop place r.bytes = take_all room (drop place r.bytes) (omega (arith, less, more.size, length-take room (drop place r.bytes), length-drop place r.bytes)) in
-      subst (HasReadBytes wanted new) (ap (λ (l : List ℕ). take place r.bytes ++ l) rest ∙ take-append-drop place r.bytes) (more.read (take place r.bytes) front.1)
+      subst (HasPartsOfBytes wanted new) (ap (λ (l : List ℕ). take place r.bytes ++ l) rest ∙ take-append-drop place r.bytes) (more.read (take place r.bytes) front.1)
 
 some_both : {A : Type 0} (o : Option A) (P Q R : A → Type 0) → IsSomeAnd o P → IsSomeAnd o Q → ((a : A) → P a → Q a → R a) → IsSomeAnd o R
 some_both None P Q R p q each = p
@@ -115,27 +115,27 @@ if_both None P Q R p q each = tt
 if_both (Some a) P Q R p q each = each a p q
 
 module _ (first before : Option Folder) (wanted : List (List ℕ)) (number place room count : ℕ) (old new : RunParts)
-    (read : IfSome first (HasReadTo wanted number place old)) (same : Goes first before Stays) (more : IfSome before (ReadsOn wanted number place room count old new)) where
-  more_of : IfSome first (ReadsOn wanted number place room count old new)
-  more_of = subst (λ (o : Option Folder). IfSome o (ReadsOn wanted number place room count old new)) (same_state first before same) more
+    (read : IfSome first (HasPartsTo wanted number place old)) (same : Goes first before Stays) (more : IfSome before (ReadsPartsOn wanted number place room count old new)) where
+  more_of : IfSome first (ReadsPartsOn wanted number place room count old new)
+  more_of = subst (λ (o : Option Folder). IfSome o (ReadsPartsOn wanted number place room count old new)) (same_state first before same) more
 
   -- one piece more
-  pub read_on : (next : ℕ) → next ≡ place + room → room ≤ count → IfSome first (HasReadTo wanted number next new)
+  pub read_on : (next : ℕ) → next ≡ place + room → room ≤ count → IfSome first (HasPartsTo wanted number next new)
   read_on next is full =
-      if_both first (HasReadTo wanted number place old) (ReadsOn wanted number place room count old new) (HasReadTo wanted number next new) read more_of
-      (λ s p q. some_both (run_at s.disk.published number) (HasFront wanted place old) (TakesPiece wanted place room count old new) (HasFront wanted next new) p q (λ r front takes. front_more wanted place room count old new r front takes next is full))
+      if_both first (HasPartsTo wanted number place old) (ReadsPartsOn wanted number place room count old new) (HasPartsTo wanted number next new) read more_of
+      (λ s p q. some_both (run_at s.disk.published number) (HasPartsOfFront wanted place old) (TakesPartsPiece wanted place room count old new) (HasPartsOfFront wanted next new) p q (λ r front takes. front_more wanted place room count old new r front takes next is full))
 
   -- the last piece
-  pub read_last : count < room → IfSome first (HasReadWhole wanted number new)
+  pub read_last : count < room → IfSome first (HasPartsOfRun wanted number new)
   read_last less =
-      if_both first (HasReadTo wanted number place old) (ReadsOn wanted number place room count old new) (HasReadWhole wanted number new) read more_of
-      (λ s p q. some_both (run_at s.disk.published number) (HasFront wanted place old) (TakesPiece wanted place room count old new) (λ r. HasReadBytes wanted new r.bytes) p q (λ r front takes. front_whole wanted place room count old new r front takes less))
+      if_both first (HasPartsTo wanted number place old) (ReadsPartsOn wanted number place room count old new) (HasPartsOfRun wanted number new) read more_of
+      (λ s p q. some_both (run_at s.disk.published number) (HasPartsOfFront wanted place old) (TakesPartsPiece wanted place room count old new) (λ r. HasPartsOfBytes wanted new r.bytes) p q (λ r front takes. front_whole wanted place room count old new r front takes less))
 
 -- the calls so far, and one more
-pub within_once : (state : Option Folder) (wanted : List (List ℕ)) (number pieces before now : ℕ) (run : RunParts) → now ≤ before + pieces + 1 → IfSome state (HasReadTo wanted number (pieces * 65536) run) → IfSome state (ReadsOnce number before now)
+pub within_once : (state : Option Folder) (wanted : List (List ℕ)) (number pieces before now : ℕ) (run : RunParts) → now ≤ before + pieces + 1 → IfSome state (HasPartsTo wanted number (pieces * 65536) run) → IfSome state (ReadsOnce number before now)
 within_once None wanted number pieces before now run few read = tt
 within_once (Some s) wanted number pieces before now run few read = there (run_at s.disk.published number) read
   where
-    there : (o : Option Run) → IsSomeAnd o (HasFront wanted (pieces * 65536) run) → IfSome o (λ r. now * 65536 ≤ before * 65536 + bytes_asked r)
+    there : (o : Option Run) → IsSomeAnd o (HasPartsOfFront wanted (pieces * 65536) run) → IfSome o (λ r. now * 65536 ≤ before * 65536 + bytes_asked r)
     there None is = tt
     there (Some r) is = omega (arith, few, is.0)

@@ -18,8 +18,8 @@ use Rattle.run_ledger.proofs.CostLemmas.{asked_less}
 use Rattle.last_failures.specs.declared.failures.Failure.{Failure}
 use Rattle.last_failures.specs.declared.parts.FailedParts.{FailedParts}
 use Rattle.last_failures.specs.declared.run_parts.RunFailures.{RunFailures}
-use Rattle.last_failures.specs.declared.search.Search.{Search}
-use Rattle.last_failures.specs.Gathering.{IsGatheredAt, IsGatheredOf, packets_for}
+use Rattle.last_failures.specs.declared.search_state.SearchState.{SearchState}
+use Rattle.last_failures.specs.Gathering.{IsGatheredAt, IsGatheredOf, packets_of_row}
 use Rattle.last_failures.specs.Last.{failure_in, failures_of, failures_of_runs, failures_in, AreRunEvents, ShowEventsFrom, AreLastFailures}
 use Rattle.last_failures.specs.Looking.{Looks, LooksFrom, LooksOn, with_packets}
 use Rattle.last_failures.specs.Parts.{failure_packets}
@@ -48,9 +48,9 @@ held_of true missing row es held is there = is ∙ ap (λ b. cond b (failure_pac
 held_of false missing row es held is there = is
 
 -- what a look at the rows of a run makes of a search
-abbrev pub TakesRows : List Row → FailedParts → (before after : Search) → Type 0
+abbrev pub TakesRows : List Row → FailedParts → (before after : SearchState) → Type 0
 TakesRows rows parts before after =
-    (ids : List (List ℕ)) (later : List Failure) (packets : Row → List ℕ) → ((row : Row) → among before.missing row.id ≡ true → packets_for parts row ≡ packets row) → Looks ids later before → Looks ids (map (with_packets packets) rows ++ later) after
+    (ids : List (List ℕ)) (later : List Failure) (packets : Row → List ℕ) → ((row : Row) → among before.missing row.id ≡ true → packets_of_row parts row ≡ packets row) → Looks ids later before → Looks ids (map (with_packets packets) rows ++ later) after
 
 module _ (s : Folder) (kinds : List Bool) (fits : FitsFolder kinds s) where
   as_many : (runs : List Run) → Shows s.disk.published runs → length kinds ≡ length runs
@@ -65,12 +65,12 @@ module _ (s : Folder) (kinds : List Bool) (fits : FitsFolder kinds s) where
       (item.0, shows.each number few ∙ item.1, drop_here runs number item.0 item.1)
 
   -- one run more that was looked at
-  one_more : (packets : Bool) (number : ℕ) (failures : RunFailures) (before after : Search) → number < length kinds → IsGatheredAt (cond packets before.missing []) number failures s → TakesRows failures.rows failures.parts before after → LooksOn packets (suc number) number before after s
+  one_more : (packets : Bool) (number : ℕ) (failures : RunFailures) (before after : SearchState) → number < length kinds → IsGatheredAt (cond packets before.missing []) number failures s → TakesRows failures.rows failures.parts before after → LooksOn packets (suc number) number before after s
   one_more packets number failures before after below are step ids looked =
       let here = run_here number looked.behind.runs below looked.behind.shown in
       let gathered = gathered_at (run_at s.disk.published number) here.0 (cond packets before.missing []) failures here.1 are in
-      let held : (row : Row) → among before.missing row.id ≡ true → packets_for failures.parts row ≡ cond packets (failure_packets gathered.events row) [] =
-      λ row there. held_of packets before.missing row gathered.events (packets_for failures.parts row) (gathered.packets_are row) there in
+      let held : (row : Row) → among before.missing row.id ≡ true → packets_of_row failures.parts row ≡ cond packets (failure_packets gathered.events row) [] =
+      λ row there. held_of packets before.missing row gathered.events (packets_of_row failures.parts row) (gathered.packets_are row) there in
       record {
         events = gathered.events ∷ looked.events;
         behind = record {
@@ -83,7 +83,7 @@ module _ (s : Folder) (kinds : List Bool) (fits : FitsFolder kinds s) where
       }
 
   -- runs that need not be looked at
-  none_more : (packets : Bool) (search : Search) → ((id : List ℕ) → among search.missing id ≡ false) → (number : ℕ) → number < length kinds → LooksOn packets (suc number) number search search s
+  none_more : (packets : Bool) (search : SearchState) → ((id : List ℕ) → among search.missing id ≡ false) → (number : ℕ) → number < length kinds → LooksOn packets (suc number) number search search s
   none_more packets search none number below ids looked =
       let here = run_here number looked.behind.runs below looked.behind.shown in
       let notes = some_notes here.0.bytes in
@@ -98,7 +98,7 @@ module _ (s : Folder) (kinds : List Bool) (fits : FitsFolder kinds s) where
         looks = done_before ids (failures_of packets events) (failures_of_runs packets looked.events) search.missing (failures_in search.found) none looked.looks;
       }
 
-  none_back : (packets : Bool) (search : Search) → ((id : List ℕ) → among search.missing id ≡ false) → (count start : ℕ) → start + count ≤ length kinds → LooksOn packets (start + count) start search search s
+  none_back : (packets : Bool) (search : SearchState) → ((id : List ℕ) → among search.missing id ≡ false) → (count start : ℕ) → start + count ≤ length kinds → LooksOn packets (start + count) start search search s
   none_back packets search none zero start few ids looked =
       let same : start + zero ≡ start = omega arith in
       subst (λ (n : ℕ). LooksFrom packets ids n search s) same looked
@@ -108,7 +108,7 @@ module _ (s : Folder) (kinds : List Bool) (fits : FitsFolder kinds s) where
       (none_more packets search none (start + count) (omega (arith, few)) ids (subst (λ (n : ℕ). LooksFrom packets ids n search s) next looked))
 
   -- before any run was looked at
-  begin_back : (packets : Bool) (ids : List (List ℕ)) (search : Search) (number : ℕ) → number ≡ length kinds → Looks ids [] search → LooksFrom packets ids number search s
+  begin_back : (packets : Bool) (ids : List (List ℕ)) (search : SearchState) (number : ℕ) → number ≡ length kinds → Looks ids [] search → LooksFrom packets ids number search s
   begin_back packets ids search number is looks =
       let all = shown s.disk.published fits.repository in
       let empty : drop number all.0 ≡ [] = drop_all number all.0 (omega (arith, is, as_many all.0 all.1)) in
@@ -121,37 +121,37 @@ module _ (s : Folder) (kinds : List Bool) (fits : FitsFolder kinds s) where
 -- ---- the same where the folder is told
 
 -- one run more, which was read
-pub run_more : (state : Option Folder) (kinds : List Bool) (packets : Bool) (number next : ℕ) (failures : RunFailures) (items : List Row) (before after : Search) → next ≡ number + 1 → items ≡ failures.rows → number < length kinds → IfSome state (FitsFolder kinds) → IfSome state (IsGatheredAt (cond packets before.missing []) number failures)
+pub run_more : (state : Option Folder) (kinds : List Bool) (packets : Bool) (number next : ℕ) (failures : RunFailures) (items : List Row) (before after : SearchState) → next ≡ number + 1 → items ≡ failures.rows → number < length kinds → IfSome state (FitsFolder kinds) → IfSome state (IsGatheredAt (cond packets before.missing []) number failures)
     → TakesRows items failures.parts before after → IfSome state (LooksOn packets next number before after)
 run_more None kinds packets number next failures items before after is listed below fits are step = tt
 run_more (Some s) kinds packets number next failures items before after is listed below fits are step =
     let same : suc number ≡ next = omega (arith, is) in
     subst (λ (n : ℕ). LooksOn packets n number before after s) same (one_more s kinds fits packets number failures before after below are (subst (λ (l : List Row). TakesRows l failures.parts before after) listed step))
 
-pub nothing_looked : (state : Option Folder) (packets : Bool) (number : ℕ) (search : Search) → IfSome state (LooksOn packets number number search search)
+pub nothing_looked : (state : Option Folder) (packets : Bool) (number : ℕ) (search : SearchState) → IfSome state (LooksOn packets number number search search)
 nothing_looked None packets number search = tt
 nothing_looked (Some s) packets number search = λ ids looked. looked
 
 -- one after another
-pub looks_then : (first before : Option Folder) (packets : Bool) (number middle next last : ℕ) (a b c : Search) → Goes first before Stays → last ≡ middle → IfSome first (LooksOn packets number middle a b) → IfSome before (LooksOn packets last next b c) → IfSome first (LooksOn packets number next a c)
+pub looks_then : (first before : Option Folder) (packets : Bool) (number middle next last : ℕ) (a b c : SearchState) → Goes first before Stays → last ≡ middle → IfSome first (LooksOn packets number middle a b) → IfSome before (LooksOn packets last next b c) → IfSome first (LooksOn packets number next a c)
 looks_then None before packets number middle next last a b c same is one two = tt
 looks_then (Some s) None packets number middle next last a b c same is one two = absurd same
 looks_then (Some s) (Some t) packets number middle next last a b c same is one two = λ ids looked.
     subst (LooksFrom packets ids next c) same (two ids (subst (λ (n : ℕ). LooksFrom packets ids n b t) (sym is) (subst (LooksFrom packets ids middle b) (sym same) (one ids looked))))
 
 -- the runs in front need not be looked at
-pub looks_done : (state : Option Folder) (kinds : List Bool) (packets : Bool) (total number start : ℕ) (before search : Search) → start ≤ number → number ≤ length kinds → IfSome state (FitsFolder kinds) → ((id : List ℕ) → among search.missing id ≡ false) → IfSome state (LooksOn packets total number before search) → IfSome state (LooksOn packets total start before search)
+pub looks_done : (state : Option Folder) (kinds : List Bool) (packets : Bool) (total number start : ℕ) (before search : SearchState) → start ≤ number → number ≤ length kinds → IfSome state (FitsFolder kinds) → ((id : List ℕ) → among search.missing id ≡ false) → IfSome state (LooksOn packets total number before search) → IfSome state (LooksOn packets total start before search)
 looks_done None kinds packets total number start before search low high fits none so_far = tt
 looks_done (Some s) kinds packets total number start before search low high fits none so_far = λ ids looked.
     let same : number ≡ start + (number - start) = omega (arith, low) in
     none_back s kinds fits packets search none (number - start) start (omega (arith, low, high)) ids
     (subst (λ (n : ℕ). LooksFrom packets ids n search s) same (so_far ids looked))
 
-pub looks_at : (state : Option Folder) (packets : Bool) (total number start : ℕ) (before search : Search) → number ≡ start → IfSome state (LooksOn packets total number before search) → IfSome state (LooksOn packets total start before search)
+pub looks_at : (state : Option Folder) (packets : Bool) (total number start : ℕ) (before search : SearchState) → number ≡ start → IfSome state (LooksOn packets total number before search) → IfSome state (LooksOn packets total start before search)
 looks_at state packets total number start before search is so_far = subst (λ (n : ℕ). IfSome state (LooksOn packets total n before search)) is so_far
 
 -- all runs behind the base were looked at
-pub all_found : (first before : Option Folder) (kinds kinds_now : List Bool) (packets : Bool) (ids : List (List ℕ)) (count start runs : ℕ) (begun done : Search) → start ≡ min count runs → runs ≡ length kinds_now → kinds_now ≡ kinds → IfSome first (FitsFolder kinds)
+pub all_found : (first before : Option Folder) (kinds kinds_now : List Bool) (packets : Bool) (ids : List (List ℕ)) (count start runs : ℕ) (begun done : SearchState) → start ≡ min count runs → runs ≡ length kinds_now → kinds_now ≡ kinds → IfSome first (FitsFolder kinds)
     → IfSome first (λ s. count ≡ (base_of s.disk.published).count) → Goes first before Stays → Looks ids [] begun → IfSome before (LooksOn packets (length kinds_now) start begun done)
     → IfSome first (AreLastFailures packets ids (failures_in done.found))
 all_found None before kinds kinds_now packets ids count start runs begun done least total same_kinds fits counted same begin on = tt

@@ -16,53 +16,50 @@ use Rattle.outcome_fold.specs.declared.test_key.TestKey.{TestKey}
 use Rattle.outcome_fold.specs.Order.{test_cmp, among}
 use Rattle.outcome_fold.specs.Outcome.{HasFolded}
 use Rattle.outcome_fold.specs.Rows.{rows_of}
+use Rattle.outcome_fold.specs.TestPackets.{test_of_row}
 use Rattle.run_shelf.specs.Repository.{Run, run_at}
-use Rattle.last_failures.specs.Parts.{open_part, failed_part, or_else, packets_in, test_of_row, failure_packets}
+use Rattle.last_failures.specs.Parts.{open_part, failed_part, or_else, part_packets, failure_packets}
 use Rattle.last_failures.specs.declared.parts.FailedParts.{FailedParts}
-use Rattle.last_failures.specs.declared.gathering.Gathered.{Gathered}
+use Rattle.last_failures.specs.declared.gathered_parts.GatheredParts.{GatheredParts}
 use Rattle.last_failures.specs.declared.run_parts.RunParts.{RunParts}
 use Rattle.last_failures.specs.declared.run_parts.RunFailures.{RunFailures}
 
 -- the packets of open parts, by test
-abbrev pub open_in : FailedParts → FinMap test_cmp (List ℕ)
-open_in parts = fin.from_entries {R = test_cmp} parts.unfinished.entries
+abbrev pub open_packets_in : FailedParts → FinMap test_cmp (List ℕ)
+open_packets_in parts = fin.from_entries {R = test_cmp} parts.unfinished.entries
 
 -- the packets of the last parts by which tests failed, by test
 abbrev pub failed_in : FailedParts → FinMap test_cmp (List ℕ)
 failed_in parts = fin.from_entries {R = test_cmp} parts.failed.entries
-
--- the packets of the test, none where it is not there
-abbrev pub packets_at : FinMap test_cmp (List ℕ) → TestKey → List ℕ
-packets_at packets test = unwrap_or (fin.get packets test) []
 
 -- this, where the test's id is one of these
 abbrev pub where_among : List (List ℕ) → TestKey → Option (List ℕ) → Option (List ℕ)
 where_among wanted test packets = if among wanted test.id then packets else None
 
 -- the id, where there is one, is one of these
-abbrev pub is_one_of : List (List ℕ) → Option (List ℕ) → Bool
-is_one_of wanted None = false
-is_one_of wanted (Some id) = among wanted id
+abbrev pub is_wanted : List (List ℕ) → Option (List ℕ) → Bool
+is_wanted wanted None = false
+is_wanted wanted (Some id) = among wanted id
 
 -- the event speaks of a test whose id is one of these
 abbrev pub speaks_of_one : List (List ℕ) → Event → Bool
-speaks_of_one wanted e = is_one_of wanted e.id
+speaks_of_one wanted e = is_wanted wanted e.id
 
 -- the packets of the parts are held of each test whose id is wanted, where these events came
 pub record HasParts (wanted : List (List ℕ)) (parts : FailedParts) (seen : List Event) : Type 0 where
-  pub open_are : (test : TestKey) → fin.get (open_in parts) test ≡ where_among wanted test (packets_in (open_part test seen))
-  pub failed_are : (test : TestKey) → fin.get (failed_in parts) test ≡ where_among wanted test (packets_in (failed_part test seen))
+  pub open_are : (test : TestKey) → fin.get (open_packets_in parts) test ≡ where_among wanted test (part_packets (open_part test seen))
+  pub failed_are : (test : TestKey) → fin.get (failed_in parts) test ≡ where_among wanted test (part_packets (failed_part test seen))
 
 -- the packets of the last part that failed of the test, where one is held
 abbrev pub packets_held : FailedParts → TestKey → Option (List ℕ)
-packets_held parts test = or_else (fin.get (open_in parts) test) (fin.get (failed_in parts) test)
+packets_held parts test = or_else (fin.get (open_packets_in parts) test) (fin.get (failed_in parts) test)
 
 -- the same of the row's test, none where none is held
-abbrev pub packets_for : FailedParts → Row → List ℕ
-packets_for parts row = unwrap_or (packets_held parts (test_of_row row)) []
+abbrev pub packets_of_row : FailedParts → Row → List ℕ
+packets_of_row parts row = unwrap_or (packets_held parts (test_of_row row)) []
 
 -- the events were folded, and the packets of their parts are held
-pub record HasGathered (wanted : List (List ℕ)) (gathered : Gathered) (seen : List Event) : Type 0 where
+pub record HasGatheredParts (wanted : List (List ℕ)) (gathered : GatheredParts) (seen : List Event) : Type 0 where
   pub folded : HasFolded gathered.outcomes seen
   pub parts : HasParts wanted gathered.parts seen
 
@@ -72,49 +69,49 @@ NoteFits (note.Event event) = Fits event
 NoteFits (note.Foreign bytes) = ⊤
 
 -- the next notes were given, and gathered behind those before
-pub record GathersNotes (wanted : List (List ℕ)) (notes : List Note) (before after : Held) (gathered : Gathered) : Type 0 where
+pub record GathersParts (wanted : List (List ℕ)) (notes : List Note) (before after : Held) (gathered : GatheredParts) : Type 0 where
   pub all : List Note
   pub given : GivesNotes before notes after all
-  pub gathered_is : HasGathered wanted gathered (events_of all)
+  pub gathered_is : HasGatheredParts wanted gathered (events_of all)
 
 -- the notes that the bytes so far decide were gathered, and the rest of the bytes is held
-pub record HasReadBytes (wanted : List (List ℕ)) (run : RunParts) (bytes : List ℕ) : Type 0 where
+pub record HasPartsOfBytes (wanted : List (List ℕ)) (run : RunParts) (bytes : List ℕ) : Type 0 where
   pub notes : List Note
   pub begins : BeginsWithNotes bytes notes run.reader.bytes
-  pub gathered_is : HasGathered wanted run.gathered (events_of notes)
+  pub gathered_is : HasGatheredParts wanted run.gathered (events_of notes)
 
 -- few enough bytes are held that a piece can be fed
-abbrev pub HasRoom : RunParts → Type 0
-HasRoom run = length run.reader.bytes ≤ most_held
+abbrev pub HasRoomForParts : RunParts → Type 0
+HasRoomForParts run = length run.reader.bytes ≤ most_held
 
 -- the rows of a run of these bytes, and of each the packets of the part that failed last of its test, where its id is wanted
 pub record IsGatheredOf (wanted : List (List ℕ)) (run : RunFailures) (bytes : List ℕ) : Type 0 where
   pub events : List Event
   pub told : HasEvents bytes events
   pub rows_are : run.rows ≡ rows_of events
-  pub packets_are : (row : Row) → packets_for run.parts row ≡ (if among wanted row.id then failure_packets events row else [])
+  pub packets_are : (row : Row) → packets_of_row run.parts row ≡ (if among wanted row.id then failure_packets events row else [])
 
 -- the same of the run of this number, which there is
 abbrev pub IsGatheredAt : (wanted : List (List ℕ)) → ℕ → RunFailures → Folder → Type 0
 IsGatheredAt wanted number run s = IsSomeAnd (run_at s.disk.published number) (λ r. IsGatheredOf wanted run r.bytes)
 
 -- the first bytes of a run were read, up to that place, which is not past its end
-abbrev pub HasFront : (wanted : List (List ℕ)) → (place : ℕ) → RunParts → Run → Type 0
-HasFront wanted place run r = (place ≤ length r.bytes) × HasReadBytes wanted run (take place r.bytes)
+abbrev pub HasPartsOfFront : (wanted : List (List ℕ)) → (place : ℕ) → RunParts → Run → Type 0
+HasPartsOfFront wanted place run r = (place ≤ length r.bytes) × HasPartsOfBytes wanted run (take place r.bytes)
 
 -- the same of the run of this number, which there is
-abbrev pub HasReadTo : (wanted : List (List ℕ)) → (number place : ℕ) → RunParts → Folder → Type 0
-HasReadTo wanted number place run s = IsSomeAnd (run_at s.disk.published number) (HasFront wanted place run)
+abbrev pub HasPartsTo : (wanted : List (List ℕ)) → (number place : ℕ) → RunParts → Folder → Type 0
+HasPartsTo wanted number place run s = IsSomeAnd (run_at s.disk.published number) (HasPartsOfFront wanted place run)
 
 -- the bytes of a run from this place on, as many as there are and fit, came behind those before
-pub record TakesPiece (wanted : List (List ℕ)) (place room count : ℕ) (old new : RunParts) (r : Run) : Type 0 where
+pub record TakesPartsPiece (wanted : List (List ℕ)) (place room count : ℕ) (old new : RunParts) (r : Run) : Type 0 where
   pub size : count ≡ length (take room (drop place r.bytes))
-  pub read : (front : List ℕ) → HasReadBytes wanted old front → HasReadBytes wanted new (front ++ take room (drop place r.bytes))
+  pub read : (front : List ℕ) → HasPartsOfBytes wanted old front → HasPartsOfBytes wanted new (front ++ take room (drop place r.bytes))
 
 -- the same of the run of this number, which there is
-abbrev pub ReadsOn : (wanted : List (List ℕ)) → (number place room count : ℕ) → RunParts → RunParts → Folder → Type 0
-ReadsOn wanted number place room count old new s = IsSomeAnd (run_at s.disk.published number) (TakesPiece wanted place room count old new)
+abbrev pub ReadsPartsOn : (wanted : List (List ℕ)) → (number place room count : ℕ) → RunParts → RunParts → Folder → Type 0
+ReadsPartsOn wanted number place room count old new s = IsSomeAnd (run_at s.disk.published number) (TakesPartsPiece wanted place room count old new)
 
 -- all of the run of this number was read, which there is
-abbrev pub HasReadWhole : (wanted : List (List ℕ)) → (number : ℕ) → RunParts → Folder → Type 0
-HasReadWhole wanted number run s = IsSomeAnd (run_at s.disk.published number) (λ r. HasReadBytes wanted run r.bytes)
+abbrev pub HasPartsOfRun : (wanted : List (List ℕ)) → (number : ℕ) → RunParts → Folder → Type 0
+HasPartsOfRun wanted number run s = IsSomeAnd (run_at s.disk.published number) (λ r. HasPartsOfBytes wanted run r.bytes)

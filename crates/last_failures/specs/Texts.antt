@@ -24,8 +24,8 @@ abbrev pub block_of : FinMap text_cmp Failure → List ℕ → List ℕ
 block_of found id = failure_of (row_or_bare id (fin.get found id))
 
 -- the block of each of the ids, in their order, and then their number
-abbrev pub text_of : List (List ℕ) → FinMap text_cmp Failure → List ℕ
-text_of ids found = flat_map (block_of found) ids ++ codes "failures=" ++ decimal (length ids) ++ newline
+abbrev pub failures_text : List (List ℕ) → FinMap text_cmp Failure → List ℕ
+failures_text ids found = flat_map (block_of found) ids ++ codes "failures=" ++ decimal (length ids) ++ newline
 
 -- the packets that were found, where some were
 abbrev pub packets_or_none : Option Failure → List ℕ

@@ -5,10 +5,10 @@ ghost use Rattle.std.specs.FinMap as map;
 ghost use Rattle.packet_codec.specs.Canonical.{canonical, Fits};
 ghost use Rattle.packet_codec.specs.declared.event.Event.{Event as AnEvent};
 ghost use Rattle.outcome_fold.specs.Rows.{is_failure};
-ghost use Rattle.last_failures.specs.Gathering.{open_in, failed_in, packets_at, packets_held, packets_for, speaks_of_one, HasParts};
-ghost use Rattle.last_failures.specs.Parts.{test_of_row};
+ghost use Rattle.outcome_fold.specs.TestPackets.{packets_at, test_of_row};
+ghost use Rattle.last_failures.specs.Gathering.{open_packets_in, failed_in, packets_held, packets_of_row, speaks_of_one, HasParts};
 
-use crate::missing::Missing;
+use crate::ids_without_row::IdsWithoutRow;
 use outcome_fold::{Ended, Row, TestKey, ended_by, key_of};
 use packet_codec::{Event, encode};
 use std::alloc::Global;
@@ -88,7 +88,7 @@ impl FailedParts {
     /// Takes the event. Only those of tests whose id is wanted are held, and they are the same at each event.
     ///
     /// After `NoMemory` nothing is known of what is held.
-    pub fn add(&mut self, wanted: &Missing, event: &Event) -> Result<(), NoMemory>
+    pub fn add(&mut self, wanted: &IdsWithoutRow, event: &Event) -> Result<(), NoMemory>
         requires { Fits event.now }
         ensures { (seen : List AnEvent) → HasParts wanted.now self.old seen → OnOk result (HasParts wanted.now self.new (seen ++ event.now ∷ [])) }
     {
@@ -107,7 +107,7 @@ impl FailedParts {
     // Holds the packet behind those of its test, which it does not complete.
     fn go_on(&mut self, key: TestKey, event: &Event) -> Result<(), NoMemory>
         requires { Fits event.now }
-        ensures open { OnOk result (open_in self.new ≡ map.insert (map.remove (open_in self.old) key) key (packets_at (open_in self.old) key ++ canonical event.now)) }
+        ensures open { OnOk result (open_packets_in self.new ≡ map.insert (map.remove (open_packets_in self.old) key) key (packets_at (open_packets_in self.old) key ++ canonical event.now)) }
         ensures failed { failed_in self.new ≡ failed_in self.old }
     {
         let mut packets = self.take(&key);
@@ -119,8 +119,8 @@ impl FailedParts {
     // Ends the part of the test with this packet. It is held further where the test fails by it.
     fn finish(&mut self, key: TestKey, ended: Ended, event: &Event) -> Result<(), NoMemory>
         requires { Fits event.now }
-        ensures open { OnOk result (open_in self.new ≡ map.remove (open_in self.old) key) }
-        ensures failed { OnOk result (failed_in self.new ≡ (if is_failure ended then map.insert (failed_in self.old) key (packets_at (open_in self.old) key ++ canonical event.now) else failed_in self.old)) }
+        ensures open { OnOk result (open_packets_in self.new ≡ map.remove (open_packets_in self.old) key) }
+        ensures failed { OnOk result (failed_in self.new ≡ (if is_failure ended then map.insert (failed_in self.old) key (packets_at (open_packets_in self.old) key ++ canonical event.now) else failed_in self.old)) }
     {
         let mut packets = self.take(&key);
         if !ended.fails() {
@@ -133,8 +133,8 @@ impl FailedParts {
 
     // The packets of the test's open part, moved out.
     fn take(&mut self, key: &TestKey) -> Packets
-        ensures packets { result ≡ packets_at (open_in self.old) key.now }
-        ensures open { open_in self.new ≡ map.remove (open_in self.old) key.now }
+        ensures packets { result ≡ packets_at (open_packets_in self.old) key.now }
+        ensures open { open_packets_in self.new ≡ map.remove (open_packets_in self.old) key.now }
         ensures failed { self.new.failed ≡ self.old.failed }
     {
         match self.unfinished.remove(key) {
@@ -155,7 +155,7 @@ impl FailedParts {
 
     /// A copy of the packets of the last part that failed of the row's test, none where none is held.
     pub fn copy_for(&self, row: &Row) -> Result<Packets, NoMemory>
-        ensures { IfOk result (λ packets. packets ≡ packets_for self.now row.now) }
+        ensures { IfOk result (λ packets. packets ≡ packets_of_row self.now row.now) }
     {
         let key = key_of_row(row)?;
         match self.get(&key) {
@@ -166,7 +166,7 @@ impl FailedParts {
 }
 
 // Whether the event speaks of a test whose id is one of these.
-fn is_wanted(wanted: &Missing, event: &Event) -> bool
+fn is_wanted(wanted: &IdsWithoutRow, event: &Event) -> bool
     ensures { result ≡ speaks_of_one wanted.now event.now }
 {
     match &event.id {

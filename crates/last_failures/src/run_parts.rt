@@ -2,8 +2,8 @@
 
 ghost use Rattle.std.specs.Prelude.{◌≡◌, false};
 
-use crate::gathering::{Gathered, gather_notes};
-use crate::missing::Missing;
+use crate::gathered_parts::{GatheredParts, gather_notes};
+use crate::ids_without_row::IdsWithoutRow;
 use crate::parts::FailedParts;
 use outcome_fold::Rows;
 use std::alloc::Global;
@@ -23,42 +23,47 @@ pub struct RunFailures {
 #[derive(Drop)]
 pub struct RunParts {
     reader: Reader,
-    gathered: Gathered,
+    gathered: GatheredParts,
     ghost open: { reader.ended ≡ false },
 }
 
 impl RunParts {
     ghost use Rattle.std.specs.Prelude.{◌≤◌, ◌++◌, [], ℕ, List, length, IfOk, OnOk};
-    ghost use Rattle.last_failures.specs.Gathering.{HasReadBytes, HasRoom, IsGatheredOf};
+    ghost use Rattle.last_failures.specs.Gathering.{HasPartsOfBytes, HasRoomForParts, IsGatheredOf};
 
     /// A run of which nothing was read.
     pub fn new(alloc: Global) -> Result<Self, NoMemory>
-        ensures has { IfOk result (λ run. (wanted : List (List ℕ)) → HasReadBytes wanted run []) }
-        ensures room { IfOk result HasRoom }
+        ensures has { IfOk result (λ run. (wanted : List (List ℕ)) → HasPartsOfBytes wanted run []) }
+        ensures room { IfOk result HasRoomForParts }
     {
         let reader = Reader::new(alloc)?;
         Ok(RunParts {
             reader,
-            gathered: Gathered::new(alloc),
+            gathered: GatheredParts::new(alloc),
         })
     }
 
     /// Takes the next bytes of the run.
     ///
     /// After `NoMemory` nothing is known of what was gathered.
-    pub fn feed(&mut self, alloc: Global, wanted: &Missing, piece: &[u8]) -> Result<(), NoMemory>
-        requires room { HasRoom self.old }
+    pub fn feed(
+        &mut self,
+        alloc: Global,
+        wanted: &IdsWithoutRow,
+        piece: &[u8],
+    ) -> Result<(), NoMemory>
+        requires room { HasRoomForParts self.old }
         requires short { length piece.now ≤ 65536 }
-        ensures has { (bytes : List ℕ) → HasReadBytes wanted.now self.old bytes → OnOk result (HasReadBytes wanted.now self.new (bytes ++ piece.now)) }
-        ensures room { OnOk result (HasRoom self.new) }
+        ensures has { (bytes : List ℕ) → HasPartsOfBytes wanted.now self.old bytes → OnOk result (HasPartsOfBytes wanted.now self.new (bytes ++ piece.now)) }
+        ensures room { OnOk result (HasRoomForParts self.new) }
     {
         self.reader.feed(piece);
         gather_notes(alloc, wanted, &mut self.reader, &mut self.gathered)
     }
 
     /// Ends the run, and gives what was gathered.
-    pub fn close(self, alloc: Global, wanted: &Missing) -> Result<RunFailures, NoMemory>
-        ensures { (bytes : List ℕ) → HasReadBytes wanted.now self bytes → IfOk result (λ run. IsGatheredOf wanted.now run bytes) }
+    pub fn close(self, alloc: Global, wanted: &IdsWithoutRow) -> Result<RunFailures, NoMemory>
+        ensures { (bytes : List ℕ) → HasPartsOfBytes wanted.now self bytes → IfOk result (λ run. IsGatheredOf wanted.now run bytes) }
     {
         let RunParts {
             mut reader,
@@ -66,7 +71,7 @@ impl RunParts {
         } = self;
         reader.finish();
         gather_notes(alloc, wanted, &mut reader, &mut gathered)?;
-        let Gathered { outcomes, parts } = gathered;
+        let GatheredParts { outcomes, parts } = gathered;
         let rows = outcomes.close()?;
         Ok(RunFailures { rows, parts })
     }

@@ -5,9 +5,9 @@ ghost use Rattle.run_ledger.specs.Costs.{ReadsOnce};
 ghost use Rattle.run_ledger.specs.Outcomes.{LedgerReads};
 ghost use Rattle.run_shelf.specs.Outcomes.{TicksUpTo};
 ghost use Rattle.run_shelf.specs.Stores.{store_kinds, store_fault, FitsUnlessBroken, seen_store};
-ghost use Rattle.last_failures.specs.Gathering.{HasReadBytes, HasReadWhole, HasRoom, IsGatheredAt, ReadsOn};
+ghost use Rattle.last_failures.specs.Gathering.{HasPartsOfBytes, HasPartsOfRun, HasRoomForParts, IsGatheredAt, ReadsPartsOn};
 
-use crate::missing::Missing;
+use crate::ids_without_row::IdsWithoutRow;
 use crate::run_parts::{RunFailures, RunParts};
 use edge_io::Shelf;
 use run_ledger::LedgerFault;
@@ -23,7 +23,7 @@ pub fn read_run<H: Shelf>(
     alloc: Global,
     store: &mut Store<'_, H>,
     number: u32,
-    wanted: &Missing,
+    wanted: &IdsWithoutRow,
 ) -> Result<RunFailures, LedgerFault>
     requires known { number < length (store_kinds store.old) }
     requires fits { FitsUnlessBroken (store_kinds store.old) (store_fault store.old) (H.seen store.old.shelf.now).told }
@@ -57,7 +57,7 @@ fn read_pieces<H: Shelf>(
     alloc: Global,
     store: &mut Store<'_, H>,
     number: u32,
-    wanted: &Missing,
+    wanted: &IdsWithoutRow,
     buf: &mut [u8],
     run: &mut RunParts,
 ) -> Result<(), LedgerFault>
@@ -65,10 +65,10 @@ fn read_pieces<H: Shelf>(
     requires known { number < length (store_kinds store.old) }
     requires fits { FitsUnlessBroken (store_kinds store.old) (store_fault store.old) (H.seen store.old.shelf.now).told }
     requires open { store_fault store.old ≡ None }
-    requires fresh { HasReadBytes wanted.now run.old [] }
-    requires space { HasRoom run.old }
+    requires fresh { HasPartsOfBytes wanted.now run.old [] }
+    requires space { HasRoomForParts run.old }
     ensures same_reference { store.new.shelf.ghost_name ≡ store.old.shelf.ghost_name }
-    ensures read { OnOk result (IfSome (H.seen store.old.shelf.now).told (HasReadWhole wanted.now number run.new)) }
+    ensures read { OnOk result (IfSome (H.seen store.old.shelf.now).told (HasPartsOfRun wanted.now number run.new)) }
     ensures reads { LedgerReads (seen_store store.old (H.seen store.old.shelf.now)) (seen_store store.new (H.seen store.new.shelf.now)) result }
     ensures time { IfSome (H.seen store.old.shelf.now).told (ReadsOnce number (H.clock store.old.shelf.now) (H.clock store.new.shelf.now)) }
 {
@@ -88,17 +88,17 @@ fn read_piece<H: Shelf>(
     store: &mut Store<'_, H>,
     number: u32,
     place: u64,
-    wanted: &Missing,
+    wanted: &IdsWithoutRow,
     buf: &mut [u8],
     run: &mut RunParts,
 ) -> Result<usize, LedgerFault>
     requires room { length buf.old ≡ 65536 }
     requires known { number < length (store_kinds store.old) }
     requires fits { FitsUnlessBroken (store_kinds store.old) (store_fault store.old) (H.seen store.old.shelf.now).told }
-    requires space { HasRoom run.old }
+    requires space { HasRoomForParts run.old }
     ensures same_reference { store.new.shelf.ghost_name ≡ store.old.shelf.ghost_name }
-    ensures read { IfOk result (λ count. IfSome (H.seen store.old.shelf.now).told (ReadsOn wanted.now number place (length buf.old) count run.old run.new)) }
-    ensures space { OnOk result (HasRoom run.new) }
+    ensures read { IfOk result (λ count. IfSome (H.seen store.old.shelf.now).told (ReadsPartsOn wanted.now number place (length buf.old) count run.old run.new)) }
+    ensures space { OnOk result (HasRoomForParts run.new) }
     ensures reads { LedgerReads (seen_store store.old (H.seen store.old.shelf.now)) (seen_store store.new (H.seen store.new.shelf.now)) result }
     ensures time { TicksUpTo 1 (H.clock store.old.shelf.now) (H.clock store.new.shelf.now) }
 {

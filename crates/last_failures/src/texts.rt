@@ -23,7 +23,7 @@ pub fn last_failures_text(
     failures: &LastFailures,
     out: &mut Vec<u8>,
 ) -> Result<(), NoMemory>
-    ensures ok { OnOk result (out.new.items ≡ out.old.items ++ spec.text_of ids.now (failures_in failures.now)) }
+    ensures ok { OnOk result (out.new.items ≡ out.old.items ++ spec.failures_text ids.now (failures_in failures.now)) }
     ensures err { OnErr result (out.new.items ≡ out.old.items) }
 {
     let before = out.len();
@@ -70,7 +70,7 @@ fn put_text(
     failures: &LastFailures,
     text: &mut Vec<u8>,
 ) -> Result<(), NoMemory>
-    ensures ok { OnOk result (text.new.items ≡ text.old.items ++ spec.text_of ids.now (failures_in failures.now)) }
+    ensures ok { OnOk result (text.new.items ≡ text.old.items ++ spec.failures_text ids.now (failures_in failures.now)) }
     ensures kept { take (length text.old.items) text.new.items ≡ text.old.items }
 {
     put_blocks(alloc, ids, failures, text)?;

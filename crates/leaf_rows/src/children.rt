@@ -85,7 +85,7 @@ impl Calls for JobStarter {
         match (name, words) {
             ("start", "") => put_value(alloc, &start(&mut self.spawner, &self.job), said),
             ("started", "") => put_started(alloc, self.spawner.started(), said),
-            ("short", "") => put_value(alloc, &self.spawner.short(), said),
+            ("short", "") => put_value(alloc, &self.spawner.memory_faults(), said),
             _ => None,
         }
     }

@@ -9,7 +9,7 @@ use crate::told::{put_line, put_texts, put_value};
 use edge_io::Job;
 use row_book::{bytes_of, put_all};
 use std::alloc::Global;
-use stestr_conf::{read_table, settle};
+use stestr_conf::{read_table, settings_of_values};
 use sub_number::{IdList, Text};
 use testr_conf::{Conf, JobFault, StestrValues, read_ids};
 
@@ -123,7 +123,7 @@ fn put_words(alloc: Global, conf: &Conf, words: &str, said: &mut Vec<u8>) -> Opt
 
 fn stand_in(alloc: Global, conf: Conf, words: &str) -> Option<Conf> {
     match text_in(alloc, words, "stand_in=")? {
-        Some(folder) => Some(conf.stand_in(folder.into_string())),
+        Some(folder) => Some(conf.place_in(folder.into_string())),
         None => Some(conf),
     }
 }
@@ -170,7 +170,7 @@ fn put_settled(
 ) -> Option<()> {
     let path = text_in(alloc, words, "test_path=")?;
     let dir = text_in(alloc, words, "top_dir=")?;
-    match settle(alloc, path.as_ref(), dir.as_ref(), values) {
+    match settings_of_values(alloc, path.as_ref(), dir.as_ref(), values) {
         Ok(conf) => put_conf(alloc, conf, words, said),
         Err(fault) => put_value(alloc, &fault, said),
     }

@@ -144,7 +144,7 @@ impl Calls for KnownShelf {
             "names" => self.names(alloc, said),
             "read" => self.read(alloc, words, said),
             "stop" => self.stop(alloc, words, said),
-            "short" => put_value(alloc, &self.shelf.short(), said),
+            "short" => put_value(alloc, &self.shelf.memory_faults(), said),
             _ => None,
         }
     }

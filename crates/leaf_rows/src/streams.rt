@@ -40,7 +40,7 @@ impl Calls for Stream {
             "write" => put_value(alloc, &self.out.write(&bytes_of(alloc, words)?), said),
             "left" => put_line(self.input.left(), said),
             "taken" => put_line(self.out.taken(), said),
-            "short" => put_value(alloc, &self.out.short(), said),
+            "short" => put_value(alloc, &self.out.memory_faults(), said),
             _ => None,
         }
     }

@@ -11,7 +11,7 @@ use Rattle.packet_codec.specs.declared.event.Event.{Event}
 use Rattle.outcome_fold.specs.Answers.{is_run}
 use Rattle.outcome_fold.specs.Rows.{completed_row, completed_behind, completed_rows}
 use Rattle.outcome_fold.specs.declared.row.Row.{Row}
-use Rattle.live_text.specs.Live.{line_behind_blanks, live_line, live_lines, rows_done, live_so_far, behind, live_rows}
+use Rattle.live_text.specs.Live.{line_behind_blanks, live_line, live_lines, rows_done, live_so_far, printed_behind, live_rows}
 use Rattle.live_text.specs.declared.live.Live.{Live}
 
 -- ---- the lane of a route
@@ -99,7 +99,7 @@ one_more seen e = append-nil (option_to_list (completed_row seen e))
 pub steps : (kind : Live) (seen : List Event) (e : Event) → live_so_far kind (seen ++ e ∷ []) ≡ live_so_far kind seen ++ live_rows kind (length (rows_done seen)) (option_to_list (completed_row seen e))
 steps kind seen e = grows kind seen (e ∷ []) ∙ ap (λ rows. live_so_far kind seen ++ live_rows kind (length (rows_done seen)) rows) (one_more seen e)
 
-pub counts : (seen : List Event) (e : Event) → length (rows_done (seen ++ e ∷ [])) ≡ behind (length (rows_done seen)) (option_to_list (completed_row seen e))
+pub counts : (seen : List Event) (e : Event) → length (rows_done (seen ++ e ∷ [])) ≡ printed_behind (length (rows_done seen)) (option_to_list (completed_row seen e))
 counts seen e =
     ap length (rows_more seen (e ∷ [])) ∙ length-append (rows_done seen) (filter is_run (completed_behind seen (e ∷ [])))
     ∙ ap (λ rows. length (rows_done seen) + length (filter is_run rows)) (one_more seen e)

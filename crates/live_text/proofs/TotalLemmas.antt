@@ -8,7 +8,7 @@ use Rattle.std.proofs.lemmas.List.Elements.{filter-append}
 use Rattle.outcome_fold.specs.declared.row.Counts.{Counts}
 use Rattle.outcome_fold.specs.declared.row.Row.{Row}
 use Rattle.live_text.specs.Live.{lane_shown}
-use Rattle.live_text.specs.Totals.{sum_of, number_of_lane, is_lane, is_of_lane, rows_of_lane, sums_of_lanes, most_lanes}
+use Rattle.live_text.specs.Totals.{sum_of, number_of_lane, is_lane, is_row_of_lane, rows_of_lane, sums_of_lanes, most_lanes}
 
 decided : (b : Bool) → (b ≡ true → ⊥) → b ≡ false
 decided true never = absurd (never refl)
@@ -67,12 +67,12 @@ pub lane_counted : (rows : List Row) (row : Row) (lanes : List Counts) (lane : �
 lane_counted rows row lanes lane next number below is sum =
     let there : 0 + lane ≡ lane = omega arith in
     ap (λ l. slice_set l lane next) is
-    ∙ ap (slice_set (sums_of_lanes rows) lane) (counted_in (is_of_lane lane) rows row next (ap (is_lane lane) number ∙ same_number lane) sum ∙ ap (λ k. sum_of (rows_of_lane k (rows ++ row ∷ []))) (sym there))
+    ∙ ap (slice_set (sums_of_lanes rows) lane) (counted_in (is_row_of_lane lane) rows row next (ap (is_lane lane) number ∙ same_number lane) sum ∙ ap (λ k. sum_of (rows_of_lane k (rows ++ row ∷ []))) (sym there))
     ∙ set_map (λ k. sum_of (rows_of_lane k rows)) (λ k. sum_of (rows_of_lane k (rows ++ row ∷ []))) 0 most_lanes lane below
-    (λ j other. sym (left_out (is_of_lane j) rows row (sum_of (rows_of_lane j rows)) (other_lane (number_of_lane (lane_shown row.route)) lane j number (λ same. other (same ∙ sym there))) refl))
+    (λ j other. sym (left_out (is_row_of_lane j) rows row (sum_of (rows_of_lane j rows)) (other_lane (number_of_lane (lane_shown row.route)) lane j number (λ same. other (same ∙ sym there))) refl))
 
 -- one row more of no lane
 pub lane_passed : (rows : List Row) (row : Row) (lanes : List Counts) → number_of_lane (lane_shown row.route) ≡ None → lanes ≡ sums_of_lanes rows → lanes ≡ sums_of_lanes (rows ++ row ∷ [])
 lane_passed rows row lanes none is =
     is ∙ same_map (λ k. sum_of (rows_of_lane k rows)) (λ k. sum_of (rows_of_lane k (rows ++ row ∷ []))) 0 most_lanes
-    (λ j above. sym (left_out (is_of_lane j) rows row (sum_of (rows_of_lane j rows)) (ap (is_lane j) none) refl))
+    (λ j above. sym (left_out (is_row_of_lane j) rows row (sum_of (rows_of_lane j rows)) (ap (is_lane j) none) refl))

@@ -9,7 +9,8 @@ use Rattle.outcome_fold.specs.Rows.{is_failure, completed_rows, open_rows}
 use Rattle.outcome_fold.specs.declared.row.Ended.{Ended}
 use Rattle.outcome_fold.specs.declared.row.Ended.TheVariants as ended
 use Rattle.outcome_fold.specs.declared.row.Row.{Row}
-use Rattle.sub_text.specs.Texts.{newline, printed_seconds, failure_of}
+use Rattle.sub_text.specs.Texts.{newline, failure_of}
+use Rattle.sub_number.specs.Seconds.{printed_seconds}
 use Rattle.live_text.specs.declared.live.Live.{Live}
 use Rattle.live_text.specs.declared.live.Live.TheVariants.{Nothing, Tests, Failures, Dots}
 
@@ -53,22 +54,22 @@ abbrev pub indented : List ℕ → List ℕ
 indented text = flat_map line_behind_blanks (lines_of text) ++ line_end text
 
 -- the lines that stand below the line of a test: its text, where it ended as a failure
-abbrev pub lines_below : Ended → List ℕ → List ℕ
-lines_below ended.Exists text = []
-lines_below ended.Success text = []
-lines_below ended.UxSuccess text = indented text
-lines_below ended.Skip text = []
-lines_below ended.Fail text = indented text
-lines_below ended.XFail text = []
-lines_below ended.Open text = []
+abbrev pub lines_below_test : Ended → List ℕ → List ℕ
+lines_below_test ended.Exists text = []
+lines_below_test ended.Success text = []
+lines_below_test ended.UxSuccess text = indented text
+lines_below_test ended.Skip text = []
+lines_below_test ended.Fail text = indented text
+lines_below_test ended.XFail text = []
+lines_below_test ended.Open text = []
 
 -- the lane and the id
 abbrev pub name_shown : Row → List ℕ
 name_shown row = codes "{" ++ lane_shown row.route ++ codes "} " ++ row.id
 
 -- what stands in front of how it ended: the lane, the id and the time
-abbrev pub line_front : Row → List ℕ
-line_front row = name_shown row ++ time_in_brackets row.nanos
+abbrev pub test_line_front : Row → List ℕ
+test_line_front row = name_shown row ++ time_in_brackets row.nanos
 
 -- how it ended, and why it was skipped
 abbrev pub ending_shown : (reason : List ℕ) → Ended → List ℕ
@@ -76,11 +77,11 @@ ending_shown reason how = codes " ... " ++ word_of how ++ reason_shown reason ++
 
 -- how it ended, and the lines below
 abbrev pub line_rest : (reason : List ℕ) → Row → List ℕ
-line_rest reason row = ending_shown reason row.ended ++ lines_below row.ended row.text
+line_rest reason row = ending_shown reason row.ended ++ lines_below_test row.ended row.text
 
 -- the line of a test, and those below
 abbrev pub test_line : (reason : List ℕ) → Row → List ℕ
-test_line reason row = line_front row ++ line_rest reason row
+test_line reason row = test_line_front row ++ line_rest reason row
 
 -- Dots.
 
@@ -99,21 +100,21 @@ abbrev pub marks_a_line : ℕ
 marks_a_line = 70
 
 -- the mark of a row behind so many others in its line, and a newline where it is the last one there
-abbrev pub mark_at : (column : ℕ) → Row → List ℕ
-mark_at column row = mark_of row.ended ++ (if column + 1 == marks_a_line then newline else [])
+abbrev pub mark_in_line : (column : ℕ) → Row → List ℕ
+mark_in_line column row = mark_of row.ended ++ (if column + 1 == marks_a_line then newline else [])
 
 -- The whole.
 
 -- what a report says of a test that fails
-abbrev pub block_of : Row → List ℕ
-block_of row = if is_failure row.ended then failure_of row else []
+abbrev pub failure_block : Row → List ℕ
+failure_block row = if is_failure row.ended then failure_of row else []
 
 -- what is printed of a row, where so many marks stand in the line
 abbrev pub live_line : Live → (column : ℕ) → Row → List ℕ
 live_line Nothing column row = []
 live_line Tests column row = test_line row.reason row
-live_line Failures column row = block_of row
-live_line Dots column row = mark_at column row
+live_line Failures column row = failure_block row
+live_line Dots column row = mark_in_line column row
 
 -- what is printed of the rows, behind so many others
 abbrev pub live_lines : Live → (before : ℕ) → List Row → List ℕ
@@ -136,12 +137,12 @@ last_line_end Failures column = []
 last_line_end Dots column = if column == 0 then [] else newline
 
 -- what ends the last line, behind so many rows
-abbrev pub end_of : Live → (rows : ℕ) → List ℕ
-end_of kind rows = last_line_end kind (rows % marks_a_line)
+abbrev pub end_behind_rows : Live → (rows : ℕ) → List ℕ
+end_behind_rows kind rows = last_line_end kind (rows % marks_a_line)
 
 -- how many rows are printed of these, behind so many others
-abbrev pub behind : (before : ℕ) → List Row → ℕ
-behind before rows = before + length (filter is_run rows)
+abbrev pub printed_behind : (before : ℕ) → List Row → ℕ
+printed_behind before rows = before + length (filter is_run rows)
 
 -- what is printed of these, behind so many others: nothing of a test that is only known to exist
 abbrev pub live_rows : Live → (before : ℕ) → List Row → List ℕ
@@ -149,7 +150,7 @@ live_rows kind before rows = live_lines kind before (filter is_run rows)
 
 -- what is printed at the end, behind so many rows: the rows of the tests that were left open
 abbrev pub live_end : Live → (before : ℕ) → List Row → List ℕ
-live_end kind before rows = live_rows kind before rows ++ end_of kind (behind before rows)
+live_end kind before rows = live_rows kind before rows ++ end_behind_rows kind (printed_behind before rows)
 
 -- all that is printed of a run of these events
 abbrev pub live_text : Live → List Event → List ℕ

@@ -7,7 +7,9 @@ use Rattle.outcome_fold.specs.declared.row.Counts.{Counts}
 use Rattle.outcome_fold.specs.declared.row.Ended.{Ended}
 use Rattle.outcome_fold.specs.declared.row.Ended.TheVariants as ended
 use Rattle.outcome_fold.specs.declared.row.Row.{Row}
-use Rattle.sub_text.specs.Texts.{newline, printed_seconds}
+use Rattle.outcome_fold.specs.Rows.{is_skip}
+use Rattle.sub_text.specs.Texts.{newline}
+use Rattle.sub_number.specs.Seconds.{printed_seconds}
 use Rattle.live_text.specs.Live.{lane_shown}
 
 -- how many tests there are of those that ran, and how long they took
@@ -25,16 +27,6 @@ is_success ended.Skip = false
 is_success ended.Fail = false
 is_success ended.XFail = false
 is_success ended.Open = false
-
--- the test was skipped
-abbrev pub is_skipped : Ended → Bool
-is_skipped ended.Exists = false
-is_skipped ended.Success = false
-is_skipped ended.UxSuccess = false
-is_skipped ended.Skip = true
-is_skipped ended.Fail = false
-is_skipped ended.XFail = false
-is_skipped ended.Open = false
 
 -- the test failed, as was expected
 abbrev pub is_expected : Ended → Bool
@@ -93,12 +85,12 @@ is_lane lane None = false
 is_lane lane (Some other) = other == lane
 
 -- the row came from this lane: from 0, where it has no route
-abbrev pub is_of_lane : ℕ → Row → Bool
-is_of_lane lane row = is_lane lane (number_of_lane (lane_shown row.route))
+abbrev pub is_row_of_lane : ℕ → Row → Bool
+is_row_of_lane lane row = is_lane lane (number_of_lane (lane_shown row.route))
 
 -- the rows of the lane
 abbrev pub rows_of_lane : ℕ → List Row → List Row
-rows_of_lane lane rows = filter (is_of_lane lane) rows
+rows_of_lane lane rows = filter (is_row_of_lane lane) rows
 
 -- The text.
 
@@ -149,5 +141,5 @@ count_with kind rows = (sum_of (rows_with kind rows)).total
 -- the totals of these rows
 abbrev pub totals_text : List Row → List ℕ
 totals_text rows =
-    totals_lines (sum_of rows) (count_with is_success rows) (count_with is_skipped rows) (count_with is_expected rows) (count_with is_unexpected rows) (count_with is_failed rows)
+    totals_lines (sum_of rows) (count_with is_success rows) (count_with is_skip rows) (count_with is_expected rows) (count_with is_unexpected rows) (count_with is_failed rows)
     (sums_of_lanes rows)

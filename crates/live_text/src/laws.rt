@@ -4,7 +4,7 @@ ghost use Rattle.std.specs.Prelude.{◌≡◌, ◌++◌, ◌∷◌, [], List, le
 ghost use Rattle.std.specs.Option.{option_to_list};
 ghost use Rattle.packet_codec.specs.declared.event.Event.{Event as AnEvent};
 ghost use Rattle.outcome_fold.specs.Rows.{completed_row, completed_behind};
-ghost use Rattle.live_text.specs.Live.{rows_done, live_so_far, behind, live_rows};
+ghost use Rattle.live_text.specs.Live.{rows_done, live_so_far, printed_behind, live_rows};
 ghost use Rattle.live_text.specs.declared.live.Live.{Live};
 
 /// Laws of what is printed of a run while it goes on.
@@ -15,5 +15,5 @@ pub fn live_text_grows()
     // So of one event more.
     ensures steps { (kind : Live) (seen : List AnEvent) (e : AnEvent) → live_so_far kind (seen ++ e ∷ []) ≡ live_so_far kind seen ++ live_rows kind (length (rows_done seen)) (option_to_list (completed_row seen e)) }
     // The number of rows grows so, too.
-    ensures counts { (seen : List AnEvent) (e : AnEvent) → length (rows_done (seen ++ e ∷ [])) ≡ behind (length (rows_done seen)) (option_to_list (completed_row seen e)) }
+    ensures counts { (seen : List AnEvent) (e : AnEvent) → length (rows_done (seen ++ e ∷ [])) ≡ printed_behind (length (rows_done seen)) (option_to_list (completed_row seen e)) }
 {}

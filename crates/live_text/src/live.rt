@@ -8,7 +8,7 @@ ghost use Rattle.std.specs.Option.{option_to_list};
 ghost use Rattle.outcome_fold.specs.Rows.{completed_row, completed_behind};
 ghost use Rattle.sub_text.specs.Texts.{failure_of};
 ghost use Rattle.live_text.specs.declared.live.Live.{Live};
-ghost use Rattle.live_text.specs.Live.{lane_shown, time_in_brackets, reason_shown, word_of, line_end, indented, lines_below, name_shown, line_front, ending_shown, line_rest, test_line, mark_of, mark_at, marks_a_line, block_of, live_line};
+ghost use Rattle.live_text.specs.Live.{lane_shown, time_in_brackets, reason_shown, word_of, line_end, indented, lines_below_test, name_shown, test_line_front, ending_shown, line_rest, test_line, mark_of, mark_in_line, marks_a_line, failure_block, live_line};
 
 use bstr::ByteSlice;
 use outcome_fold::{Ended, Row};
@@ -122,7 +122,7 @@ fn write_indented(lines: &[u8], text: &mut Vec<u8>) -> Result<(), NoMemory>
 }
 
 fn write_below(row: &Row, text: &mut Vec<u8>) -> Result<(), NoMemory>
-    ensures ok { OnOk result (text.new.items ≡ text.old.items ++ lines_below row.now.ended row.now.text) }
+    ensures ok { OnOk result (text.new.items ≡ text.old.items ++ lines_below_test row.now.ended row.now.text) }
     ensures kept { take (length text.old.items) text.new.items ≡ text.old.items }
 {
     match row.ended {
@@ -143,7 +143,7 @@ fn write_name(row: &Row, text: &mut Vec<u8>) -> Result<(), NoMemory>
 }
 
 fn write_front(row: &Row, text: &mut Vec<u8>) -> Result<(), NoMemory>
-    ensures ok { OnOk result (text.new.items ≡ text.old.items ++ line_front row.now) }
+    ensures ok { OnOk result (text.new.items ≡ text.old.items ++ test_line_front row.now) }
     ensures kept { take (length text.old.items) text.new.items ≡ text.old.items }
 {
     write_name(row, text)?;
@@ -189,7 +189,7 @@ fn write_failure(row: &Row, text: &mut Vec<u8>) -> Result<(), NoMemory>
 }
 
 fn write_block(row: &Row, text: &mut Vec<u8>) -> Result<(), NoMemory>
-    ensures ok { OnOk result (text.new.items ≡ text.old.items ++ block_of row.now) }
+    ensures ok { OnOk result (text.new.items ≡ text.old.items ++ failure_block row.now) }
     ensures kept { take (length text.old.items) text.new.items ≡ text.old.items }
 {
     if row.ended.fails() {
@@ -200,7 +200,7 @@ fn write_block(row: &Row, text: &mut Vec<u8>) -> Result<(), NoMemory>
 }
 
 fn write_mark(column: u32, row: &Row, text: &mut Vec<u8>) -> Result<(), NoMemory>
-    ensures ok { OnOk result (text.new.items ≡ text.old.items ++ mark_at column row.now) }
+    ensures ok { OnOk result (text.new.items ≡ text.old.items ++ mark_in_line column row.now) }
     ensures kept { take (length text.old.items) text.new.items ≡ text.old.items }
 {
     text.extend_from_slice(mark_of(row.ended))?;

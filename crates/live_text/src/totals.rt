@@ -3,6 +3,7 @@
 ghost use Rattle.std.specs.Prelude.{◌≡◌, ◌++◌, ◌∷◌, [], ℕ, ◌<◌, Bool, List, Option, Some, None, take, length, replicate, IfOk, IfSome, OnOk};
 ghost use Rattle.std.specs.List.{filter};
 ghost use Rattle.outcome_fold.specs.declared.row.Row.{Row as ARow};
+ghost use Rattle.outcome_fold.specs.Rows.{is_skip};
 ghost use Rattle.live_text.specs.Live.{lane_shown};
 ghost use Rattle.live_text.specs.Totals as spec;
 ghost use Rattle.live_text.specs.Written.{CountsKinds, CountsLanes};
@@ -93,7 +94,7 @@ fn is_success(ended: Ended) -> bool
 }
 
 fn is_skipped(ended: Ended) -> bool
-    ensures { result ≡ spec.is_skipped ended }
+    ensures { result ≡ is_skip ended }
 {
     ended == Ended::Skip
 }

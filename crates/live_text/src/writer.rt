@@ -82,7 +82,7 @@ impl LiveWriter {
 
     /// Appends the end of the last line, where marks stand in it.
     pub fn end(&self, text: &mut Vec<u8>) -> Result<(), NoMemory>
-        ensures { (kind : ALive) (rows : List ARow) → HasWritten kind self.now rows → OnOk result (text.new.items ≡ text.old.items ++ spec.end_of kind (length (filter is_run rows))) }
+        ensures { (kind : ALive) (rows : List ARow) → HasWritten kind self.now rows → OnOk result (text.new.items ≡ text.old.items ++ spec.end_behind_rows kind (length (filter is_run rows))) }
     {
         if self.kind == Live::Dots && self.column != 0 {
             text.push(b'\n')?;

@@ -6,7 +6,7 @@ use std::sync::Wait;
 use std::test::Fail;
 use std::thread::Threads;
 use sub_number::{Bytes, Text};
-use trial_calls::{FAIL, FOO, NOTHING, Told, call_with, has_file};
+use trial_calls::{CallOutcome, FAIL, FOO, NOTHING, call_with, has_file};
 
 /// What the file `format` has in a folder of the original tool.
 pub const OLD_FORMAT: &[u8] = b"1\n";
@@ -55,7 +55,7 @@ pub fn call_at<R: Threads + Wait + Sync + AllocGlobal>(
     words: &[&str],
     shelf: &mut MemShelf,
     site: &mut MapSite,
-) -> Result<Told, Fail> {
+) -> Result<CallOutcome, Fail> {
     let alloc = rt.alloc();
     let mut spawner = PlanSpawner::new(alloc, Vec::new(alloc), Vec::new(alloc));
     call_with(rt, words, shelf, &mut spawner, site, &[])

@@ -6,7 +6,8 @@ use std::sync::Wait;
 use std::test::Fail;
 use std::thread::Threads;
 use trial_calls::{
-    FAIL, FAIL_KEPT, FOO, NOTHING, SHELF_FAULT, Told, call, load, repository, source, tells_of,
+    CallOutcome, FAIL, FAIL_KEPT, FOO, NOTHING, SHELF_FAULT, call, load, repository, source,
+    tells_of,
 };
 
 const FAIL_REPORT: &[u8] =
@@ -42,7 +43,7 @@ fn ask<R: Threads + Wait + Sync + AllocGlobal, H: Shelf>(
     rt: &R,
     shelf: &mut H,
     words: &[&str],
-) -> Result<Told, Fail> {
+) -> Result<CallOutcome, Fail> {
     let mut input = source(rt.alloc(), NOTHING, 1, &[])?;
     call(rt, words, shelf, &mut input)
 }

@@ -7,7 +7,7 @@ use std::process::Abort;
 use std::sync::Wait;
 use std::test::Fail;
 use std::thread::Threads;
-use trial_calls::{NOTHING, SHELF_FAULT, Told, call_over, put, repository, source};
+use trial_calls::{CallOutcome, NOTHING, SHELF_FAULT, call_over, put, repository, source};
 
 const SINK_FAULT: &[u8] = b"testr: fault writing output\n";
 
@@ -37,7 +37,7 @@ fn copy_from<R: Threads + Wait + Sync + AllocGlobal>(
     rt: &R,
     shelf: &mut MemShelf,
     fails: &[u64],
-) -> Result<Told, Fail> {
+) -> Result<CallOutcome, Fail> {
     let mut input = source(rt.alloc(), NOTHING, 1, &[])?;
     let words = ["testr", "last", "--subunit"];
     call_over(rt, &words, shelf, &mut input, fails, &[])
@@ -49,7 +49,7 @@ fn copy_of<R: Threads + Wait + Sync + AllocGlobal>(
     run: &[u8],
     shelf_fails: &[u64],
     out_fails: &[u64],
-) -> Result<Told, Fail> {
+) -> Result<CallOutcome, Fail> {
     let mut shelf = shelf_of(rt.alloc(), run, shelf_fails)?;
     copy_from(rt, &mut shelf, out_fails)
 }

@@ -6,9 +6,9 @@ use std::sync::Wait;
 use std::test::Fail;
 use std::thread::Threads;
 use sub_number::{Bytes, Text};
-use testr_cli::{Command, Verb, reads};
+use testr_cli::{Command, Verb, read_command};
 use trial_calls::{
-    FOO, FOO_KEPT, NOTHING, PASSED_AS_0, Told, call_with, has_file, owned, repository,
+    CallOutcome, FOO, FOO_KEPT, NOTHING, PASSED_AS_0, call_with, has_file, owned, repository,
 };
 
 // `foo` passed, under lane 1.
@@ -41,7 +41,7 @@ fn call_at<R: Threads + Wait + Sync + AllocGlobal>(
     words: &[&str],
     shelf: &mut MemShelf,
     site: &mut MapSite,
-) -> Result<Told, Fail> {
+) -> Result<CallOutcome, Fail> {
     let alloc = rt.alloc();
     let mut spawner = PlanSpawner::new(alloc, Vec::new(alloc), Vec::new(alloc));
     call_with(rt, words, shelf, &mut spawner, site, &[])
@@ -131,7 +131,7 @@ fn each_read_of_a_file_may_fail(rt: HostRuntime) -> Result<(), Fail> {
 // The command that these words are.
 fn read(alloc: Global, words: &[&str]) -> Result<Option<Command>, Fail> {
     let words = owned(alloc, words)?;
-    Ok(reads(alloc, &words)?)
+    Ok(read_command(alloc, &words)?)
 }
 
 // Whether it is a partial load of so many names.

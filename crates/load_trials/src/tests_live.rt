@@ -5,8 +5,8 @@ use std::sync::Wait;
 use std::test::Fail;
 use std::thread::Threads;
 use trial_calls::{
-    FAIL, FAIL_KEPT, FOO, NOTHING, Told, WRONG_USAGE, call, call_failing, call_over, has_file,
-    project_with, repository, source,
+    CallOutcome, FAIL, FAIL_KEPT, FOO, NOTHING, WRONG_USAGE, call, call_failing, call_over,
+    has_file, project_with, repository, source,
 };
 
 // `foo` failed, and `bar` was skipped.
@@ -233,7 +233,7 @@ fn told_by<R: Threads + Wait + Sync + AllocGlobal>(
     words: &[&str],
     shelf: &mut MemShelf,
     bytes: &[u8],
-) -> Result<Told, Fail> {
+) -> Result<CallOutcome, Fail> {
     let mut input = source(rt.alloc(), bytes, 7, &[])?;
     call(rt, words, shelf, &mut input)
 }

@@ -8,8 +8,8 @@ use std::test::Fail;
 use std::thread::Threads;
 use testr_cli::testr;
 use trial_calls::{
-    FOO, FOO_KEPT, NOTHING, PASSED_AS_0, Told, WRONG_USAGE, call_over, has_file, loads, owned, put,
-    repository, sink, source, tells, tells_and_leaves, tells_of,
+    CallOutcome, FOO, FOO_KEPT, NOTHING, PASSED_AS_0, WRONG_USAGE, call_over, has_file, loads,
+    owned, put, repository, sink, source, tells, tells_and_leaves, tells_of,
 };
 
 const USAGE: &[u8] = b"usage: testr COMMAND or a subunit filter\n";
@@ -190,7 +190,7 @@ fn load_over<R: Threads + Wait + Sync + AllocGlobal>(
     shelf: &mut MemShelf,
     out_fails: &[u64],
     err_fails: &[u64],
-) -> Result<Told, Fail> {
+) -> Result<CallOutcome, Fail> {
     let mut input = source(rt.alloc(), FOO, 12, &[])?;
     let words = ["testr", "load"].as_slice();
     call_over(rt, words, shelf, &mut input, out_fails, err_fails)

@@ -4,14 +4,14 @@ use edge_io::MemShelf;
 use std::sync::Wait;
 use std::test::Fail;
 use std::thread::Threads;
-use trial_calls::{NOTHING, Told, WRONG_USAGE, call_over, source};
+use trial_calls::{CallOutcome, NOTHING, WRONG_USAGE, call_over, source};
 
 // Calls the program over a folder of which no call succeeds, and an output that fails at these writes.
 fn tested<R: Threads + Wait + Sync + AllocGlobal>(
     rt: &R,
     words: &[&str],
     writes: &[u64],
-) -> Result<Told, Fail> {
+) -> Result<CallOutcome, Fail> {
     let alloc = rt.alloc();
     let mut shelf = MemShelf::new(alloc, [0u64, 1, 2].to_vec(alloc)?);
     let mut input = source(alloc, NOTHING, 1, &[0])?;

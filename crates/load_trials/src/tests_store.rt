@@ -9,8 +9,8 @@ use std::sync::Wait;
 use std::test::Fail;
 use std::thread::Threads;
 use trial_calls::{
-    FAIL, FAIL_KEPT, FOO, FOO_KEPT, NOTHING, PASSED_AS_0, PASSED_AS_1, SHELF_FAULT, Told, call,
-    has_file, has_started, load, loads, project_of, put, repository, shows, source,
+    CallOutcome, FAIL, FAIL_KEPT, FOO, FOO_KEPT, NOTHING, PASSED_AS_0, PASSED_AS_1, SHELF_FAULT,
+    call, has_file, has_started, load, loads, project_of, put, repository, shows, source,
     tells_and_leaves, tells_of,
 };
 
@@ -23,7 +23,7 @@ const FORMAT: &[u8] = b"subunit-store 1\n";
 fn init<R: Threads + Wait + Sync + AllocGlobal, H: Shelf>(
     rt: &R,
     shelf: &mut H,
-) -> Result<Told, Fail> {
+) -> Result<CallOutcome, Fail> {
     let mut input = source(rt.alloc(), FOO, 12, &[])?;
     call(rt, &["testr", "init"], shelf, &mut input)
 }
@@ -268,7 +268,7 @@ fn each_call_of_the_folder_may_fail_at_a_load(rt: HostRuntime) -> Result<(), Fai
 fn failing<R: Threads + Wait + Sync + AllocGlobal, H: Shelf>(
     rt: &R,
     shelf: &mut H,
-) -> Result<Told, Fail> {
+) -> Result<CallOutcome, Fail> {
     let mut input = source(rt.alloc(), NOTHING, 1, &[])?;
     call(rt, &["testr", "failing", "--list"], shelf, &mut input)
 }
@@ -398,7 +398,7 @@ fn report_after<R: Threads + Wait + Sync + AllocGlobal>(
     shelf: &MemShelf,
     moment: u64,
     choice: bool,
-) -> Result<Told, Fail> {
+) -> Result<CallOutcome, Fail> {
     let mut image = shelf.image(moment, choice)?;
     load(rt, &mut image, FOO)
 }

@@ -2,7 +2,9 @@
 
 use std::alloc::Global;
 use sub_number::Text;
-use testr_cli::{Command, Face, FormatKind, LiveKind, Question, Verb, reads, reads_as};
+use testr_cli::{
+    Command, Face, FormatKind, LiveKind, Question, Verb, read_command, read_command_as,
+};
 
 fn push_words(alloc: Global, list: &mut Vec<String>, words: &[&str]) -> Option<()> {
     for word in words {
@@ -21,20 +23,20 @@ fn owned(alloc: Global, words: &[&str]) -> Option<Vec<String>> {
 // The command that these words are behind the name of this face.
 fn read_by(alloc: Global, face: Face, words: &[&str]) -> Option<Command> {
     let words = owned(alloc, words)?;
-    reads_as(alloc, face, &words).ok()?
+    read_command_as(alloc, face, &words).ok()?
 }
 
 // The command that these words are behind `testr`.
 fn read(alloc: Global, words: &[&str]) -> Option<Command> {
     let words = owned(alloc, words)?;
-    reads(alloc, &words).ok()?
+    read_command(alloc, &words).ok()?
 }
 
 fn is_no_command(alloc: Global, words: &[&str]) -> bool {
     let Some(words) = owned(alloc, words) else {
         return false;
     };
-    matches!(reads(alloc, &words), Ok(None))
+    matches!(read_command(alloc, &words), Ok(None))
 }
 
 fn is_word(bytes: &[u8], word: &str) -> bool {

@@ -21,7 +21,7 @@ use Rattle.outcome_fold.proofs.AnswerLemmas.{among_failing}
 use Rattle.outcome_fold.proofs.OrderLemmas.{texts_total, exact_texts}
 use Rattle.outcome_fold.proofs.SetLemmas.{ordered_already, same_order, among_order, among_both, among_without, order_append}
 use Rattle.outcome_fold.proofs.TableLemmas.{tied_is}
-use Rattle.missing_tests.specs.Missing.{ran_ids, missing_ids}
+use Rattle.missing_tests.specs.Missing.{ids_that_ran, missing_ids}
 
 -- ---- what was asked for
 
@@ -87,11 +87,11 @@ either false true false failed ran one rest is = rest is
 either false false tie failed ran one rest is = rest is
 
 -- an id with a row that fails is that of a test that ran
-failed_ran : (rows : List Row) (q : List ℕ) → has_failure rows q ≡ true → among (ran_ids rows) q ≡ true
+failed_ran : (rows : List Row) (q : List ℕ) → has_failure rows q ≡ true → among (ids_that_ran rows) q ≡ true
 failed_ran [] q is = cc
 failed_ran (row ∷ rows) q is =
     among_first (is_run row) row (filter is_run rows) q
-    ∙ either (row_fails row) (is_run row) (eq_by_cmp text_cmp q row.id) (has_failure rows q) (among (ran_ids rows) q) (fails_so row.ended) (failed_ran rows q) is
+    ∙ either (row_fails row) (is_run row) (eq_by_cmp text_cmp q row.id) (has_failure rows q) (among (ids_that_ran rows) q) (fails_so row.ended) (failed_ran rows q) is
 
 one_passed : (runs tie own fails rest : Bool) → (tie ≡ true → own ≡ fails) → (((runs && not own) && tie) || (rest && not fails)) ≡ (((runs && tie) || rest) && not fails)
 one_passed true true own true rest same = ap (λ own. (not own && true) || (rest && false)) (same refl) ∙ never rest
@@ -112,7 +112,7 @@ passed_at all (row ∷ rows) q =
     ∙ one_passed (is_run row) (eq_by_cmp text_cmp q row.id) (has_failure all row.id) (has_failure all q) (among (ids_of (filter is_run rows)) q) (λ tie. ap (has_failure all) (sym (tied_is exact_texts q row.id tie)))
     ∙ ap (λ b. b && not (has_failure all q)) (sym (among_first (is_run row) row (filter is_run rows) q))
 
-among_passed : (rows : List Row) (q : List ℕ) → among (passed_of rows) q ≡ (among (ran_ids rows) q && not (has_failure rows q))
+among_passed : (rows : List Row) (q : List ℕ) → among (passed_of rows) q ≡ (among (ids_that_ran rows) q && not (has_failure rows q))
 among_passed rows q = among_order (ids_of (filter (λ row. is_run row && not (has_failure rows row.id)) rows)) q ∙ passed_at rows rows q
 
 -- ---- which are left
@@ -130,16 +130,16 @@ left_missing rows ids asked set changed failing left asked-is set-is changed-is 
     let fails = failing_of rows in
     let kept = without set passed ++ fails in
     left-is ∙ (λ i. without (changed-is i) (failing-is i)) ∙ sym (left_in_order kept fails)
-    ∙ same_order (without (in_byte_order kept) fails) (without ids (ran_ids rows)) (λ q.
+    ∙ same_order (without (in_byte_order kept) fails) (without ids (ids_that_ran rows)) (λ q.
     among_without (in_byte_order kept) fails q
     ∙ (λ i. not (among_failing rows q i) && (among_order kept q ∙ among_both (without set passed) fails q ∙ (λ j. (among_without set passed q ∙ (λ k. not (among_passed rows q k) && (ap (λ l. among l q) (set-is ∙ ap in_byte_order asked-is) ∙ among_order (in_byte_order ids) q ∙ among_order ids q) k)) j || among_failing rows q j)) i)
-    ∙ taken_out (has_failure rows q) (among (ran_ids rows) q) (among ids q) (failed_ran rows q)
-    ∙ sym (among_without ids (ran_ids rows) q))
+    ∙ taken_out (has_failure rows q) (among (ids_that_ran rows) q) (among ids q) (failed_ran rows q)
+    ∙ sym (among_without ids (ids_that_ran rows) q))
 
 -- ---- the law
 
-pub among_missing : (asked : List (List ℕ)) (rows : List Row) (id : List ℕ) → among (missing_ids asked rows) id ≡ (among asked id && not (among (ran_ids rows) id))
-among_missing asked rows id = among_order (without asked (ran_ids rows)) id ∙ among_without asked (ran_ids rows) id ∙ turn (among (ran_ids rows) id) (among asked id)
+pub among_missing : (asked : List (List ℕ)) (rows : List Row) (id : List ℕ) → among (missing_ids asked rows) id ≡ (among asked id && not (among (ids_that_ran rows) id))
+among_missing asked rows id = among_order (without asked (ids_that_ran rows)) id ∙ among_without asked (ids_that_ran rows) id ∙ turn (among (ids_that_ran rows) id) (among asked id)
   where
     turn : (r a : Bool) → (not r && a) ≡ (a && not r)
     turn true true = refl

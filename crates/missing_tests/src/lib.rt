@@ -3,12 +3,12 @@
 //! What is told is defined in docs/COMMANDS.md, "Tests that did not run". For want of memory a call answers `NoMemory`, which
 //! comes for nothing else.
 //!
-//! - `missing`: the tests, and their lines
+//! - `missing_report`: the tests, and their lines
 //! - `laws`: each of them is told of, and no other
 #![tactic(auto)]
 
 mod laws;
-mod missing;
+mod missing_report;
 
 pub use laws::the_missing_are_told_of;
-pub use missing::{asked_once, each_once, missing_text};
+pub use missing_report::{asked_once, each_once, missing_text};

@@ -13,7 +13,7 @@ use Rattle.old_folder.specs.Olds.{next_name, next_in, HasOldRun, IsOldWith}
 use Rattle.old_folder.specs.declared.faults.OldFault.{OldFault}
 use Rattle.old_folder.specs.declared.faults.OldFault.TheVariants.{NoStore, NotOld, UnknownFormat, BadCount, Shelf, NoMemory}
 use Rattle.old_copies.specs.Copying.{IsOldFolder, folder_in}
-use Rattle.old_copies.specs.Looking.{TakesUp, LookFails, copy_fault}
+use Rattle.old_copies.specs.Looking.{TakesUp, CopyLookFails, copy_fault}
 
 -- ---- names
 
@@ -106,7 +106,7 @@ module _ (old : Files) (s m t : Folder) (empty : s ≡ begins_with (λ name. Non
     not_old = λ is. strange.not_old (format_is ∙ is);
   }
 
-  pub look_fails : (fault : OldFault) (u : Folder) → OldSurveyFails fault t u → LookFails old (copy_fault fault)
+  pub look_fails : (fault : OldFault) (u : Folder) → OldSurveyFails fault t u → CopyLookFails old (copy_fault fault)
   look_fails NoStore u fails = sym format_is ∙ fails.0
   look_fails NotOld u fails = known_format fails.0
   look_fails UnknownFormat u fails = strange_format fails.0
@@ -123,9 +123,9 @@ module _ (from : List ℕ) (w v : Option Files) (same : v ≡ w) (s m t : Folder
       by None one two = tt
       by (Some files) one two = counts_next (folder_in from files) s m t empty one two count with
 
-  pub looks_fail : IfSome w (λ files. TakesUp format_name (folder_in from files format_name) s m) → IfSome v (λ files. TakesUp next_name (folder_in from files next_name) m t) → (fault : OldFault) (u : Folder) → OldSurveyFails fault t u → IfSome w (λ files. LookFails (folder_in from files) (copy_fault fault))
+  pub looks_fail : IfSome w (λ files. TakesUp format_name (folder_in from files format_name) s m) → IfSome v (λ files. TakesUp next_name (folder_in from files next_name) m t) → (fault : OldFault) (u : Folder) → OldSurveyFails fault t u → IfSome w (λ files. CopyLookFails (folder_in from files) (copy_fault fault))
   looks_fail first second fault u fails = by w first (subst (λ (o : Option Files). IfSome o (λ files. TakesUp next_name (folder_in from files next_name) m t)) same second)
     where
-      by : (o : Option Files) → IfSome o (λ files. TakesUp format_name (folder_in from files format_name) s m) → IfSome o (λ files. TakesUp next_name (folder_in from files next_name) m t) → IfSome o (λ files. LookFails (folder_in from files) (copy_fault fault))
+      by : (o : Option Files) → IfSome o (λ files. TakesUp format_name (folder_in from files format_name) s m) → IfSome o (λ files. TakesUp next_name (folder_in from files next_name) m t) → IfSome o (λ files. CopyLookFails (folder_in from files) (copy_fault fault))
       by None one two = tt
       by (Some files) one two = look_fails (folder_in from files) s m t empty one two fault u fails

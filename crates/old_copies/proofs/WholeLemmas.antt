@@ -11,8 +11,8 @@ use Rattle.edge_io.proofs.Passing.{passes_same, passes_then, passes_weaker}
 use Rattle.run_shelf.specs.Images.{AtRest, PassesOld}
 use Rattle.run_shelf.specs.Repository.{full_name, format_name}
 use Rattle.run_shelf.proofs.Joining.{rest_images, goes_beside, goes_after, goes_with, settled_stays, some_after}
-use Rattle.old_copies.specs.Copying.{folder_in, IsName, Either, IsRunBelow, IsCopiedFirst, IsCopied, Between, HasCopies, HoldsOther, Places, places, folder_failed, site_failed, StepFails, PassesCopies, Copies, CopyStep, IsOnTheWay, PassesWay, CopiesAll, IsOldFolder, PassesTaking, TakesFiles, HasOtherFiles, CopyFails, CopiesOld}
-use Rattle.old_copies.specs.Looking.{IsFree, HereFails, HoldsNoOther, NamesFail, LookFails}
+use Rattle.old_copies.specs.Copying.{folder_in, IsName, Either, IsRunBelow, IsCopiedFirst, IsCopied, Between, HasCopies, HoldsOther, Places, places, folder_failed, site_failed, StepFails, PassesCopies, Copies, CopyStep, IsBeingCopied, PassesWay, CopiesAll, IsOldFolder, PassesTaking, TakesFiles, HasOtherFiles, CopyFails, CopiesOld}
+use Rattle.old_copies.specs.Looking.{IsFree, HereFails, HoldsNoOther, CopyNamesFail, CopyLookFails}
 use Rattle.old_copies.specs.declared.faults.OldCopyFault.{OldCopyFault}
 use Rattle.old_copies.specs.declared.faults.OldCopyFault.TheVariants as fault
 use Rattle.old_copies.proofs.BetweenLemmas.{between_self, both_between}
@@ -73,9 +73,9 @@ runs_stop {U = U} count i from x y z value bad less first second =
 
 module _ (count : ℕ) (old : Files) where
   pub way_first : (s t : Folder) → PassesCopies (IsCopiedFirst count) old s t → PassesWay count old s t
-  way_first s t passes = passes_weaker (λ image. IsImage s.disk image ⊎ Between (IsCopiedFirst count) old s.disk.published image) (λ image. IsImage s.disk image ⊎ IsOnTheWay count old s.disk.published image) more s t passes
+  way_first s t passes = passes_weaker (λ image. IsImage s.disk image ⊎ Between (IsCopiedFirst count) old s.disk.published image) (λ image. IsImage s.disk image ⊎ IsBeingCopied count old s.disk.published image) more s t passes
     where
-      more : (image : Files) → IsImage s.disk image ⊎ Between (IsCopiedFirst count) old s.disk.published image → IsImage s.disk image ⊎ IsOnTheWay count old s.disk.published image
+      more : (image : Files) → IsImage s.disk image ⊎ Between (IsCopiedFirst count) old s.disk.published image → IsImage s.disk image ⊎ IsBeingCopied count old s.disk.published image
       more image (inl was) = inl was
       more image (inr between) = inr (inl between)
 
@@ -105,7 +105,7 @@ module _ (count : ℕ) (old : Files) where
           | inr taken ↦ taken.1
         ]
 
-    last_image : (image : Files) → IsImage m.disk image ⊎ Between (IsName format_name) old m.disk.published image → IsImage s.disk image ⊎ IsOnTheWay count old s.disk.published image
+    last_image : (image : Files) → IsImage m.disk image ⊎ Between (IsName format_name) old m.disk.published image → IsImage s.disk image ⊎ IsBeingCopied count old s.disk.published image
     last_image image (inl was) =
         let is : image ≡ m.disk.published = rest_images m.disk.published image (subst (λ (d : Disk). IsImage d image) rest was) in
         inr (inl (subst (λ (f : Files). Between (IsCopiedFirst count) old s.disk.published f) (sym is) has.between))
@@ -116,8 +116,8 @@ module _ (count : ℕ) (old : Files) where
 
     pub way_then : (t : Folder) → PassesCopies (IsCopiedFirst count) old s m → PassesCopies (IsName format_name) old m t → PassesWay count old s t
     way_then t first second =
-        passes_then (λ image. IsImage s.disk image ⊎ IsOnTheWay count old s.disk.published image) s m t (way_first s m first)
-        (passes_weaker (λ image. IsImage m.disk image ⊎ Between (IsName format_name) old m.disk.published image) (λ image. IsImage s.disk image ⊎ IsOnTheWay count old s.disk.published image) last_image m t second)
+        passes_then (λ image. IsImage s.disk image ⊎ IsBeingCopied count old s.disk.published image) s m t (way_first s m first)
+        (passes_weaker (λ image. IsImage m.disk image ⊎ Between (IsName format_name) old m.disk.published image) (λ image. IsImage s.disk image ⊎ IsBeingCopied count old s.disk.published image) last_image m t second)
 
 first_named : (count : ℕ) (name : List ℕ) → IsCopiedFirst count name → IsCopied count name
 first_named count name first = inl first
@@ -144,12 +144,12 @@ all_then count from x y z value result first second = record {
 
 -- what stands beside the files, on the way
 abbrev TakingBeside : Files → Files → Files → Type 0
-TakingBeside old files image = (count : ℕ) × IsOldFolder count old × IsOnTheWay count old files image
+TakingBeside old files image = (count : ℕ) × IsOldFolder count old × IsBeingCopied count old files image
 
 way_beside : (count : ℕ) (old : Files) → IsOldFolder count old → (m t : Folder) → PassesWay count old m t → Passes (λ image. IsImage m.disk image ⊎ TakingBeside old m.disk.published image) m t
-way_beside count old is m t passes = passes_weaker (λ image. IsImage m.disk image ⊎ IsOnTheWay count old m.disk.published image) (λ image. IsImage m.disk image ⊎ TakingBeside old m.disk.published image) more m t passes
+way_beside count old is m t passes = passes_weaker (λ image. IsImage m.disk image ⊎ IsBeingCopied count old m.disk.published image) (λ image. IsImage m.disk image ⊎ TakingBeside old m.disk.published image) more m t passes
   where
-    more : (image : Files) → IsImage m.disk image ⊎ IsOnTheWay count old m.disk.published image → IsImage m.disk image ⊎ TakingBeside old m.disk.published image
+    more : (image : Files) → IsImage m.disk image ⊎ IsBeingCopied count old m.disk.published image → IsImage m.disk image ⊎ TakingBeside old m.disk.published image
     more image (inl was) = inl was
     more image (inr way) = inr (count, is, way)
 
@@ -169,7 +169,7 @@ here_fails old files fault.BadCount fails = absurd fails
 here_fails old files fault.OtherFiles fails = absurd fails
 here_fails old files fault.Site fails = absurd fails
 
-there_fails : (old files : Files) (bad : OldCopyFault) → LookFails old bad → CopyFails old files bad
+there_fails : (old files : Files) (bad : OldCopyFault) → CopyLookFails old bad → CopyFails old files bad
 there_fails old files fault.NoStore fails = fails
 there_fails old files fault.NotOld fails = fails
 there_fails old files fault.UnknownFormat fails = fails
@@ -182,7 +182,7 @@ there_fails old files fault.StrangeHere fails = absurd fails
 there_fails old files fault.OtherFiles fails = absurd fails
 there_fails old files (fault.Shelf call) fails = absurd fails
 
-names_fail : (count : ℕ) (old : Files) (s : Folder) (is_old : IsOldFolder count old) (bad : OldCopyFault) → NamesFail count bad s → CopyFails old s.disk.published bad
+names_fail : (count : ℕ) (old : Files) (s : Folder) (is_old : IsOldFolder count old) (bad : OldCopyFault) → CopyNamesFail count bad s → CopyFails old s.disk.published bad
 names_fail count old s is_old fault.OtherFiles fails = record { count = count; is_old = is_old; name = fails.name; there = fails.there; other = λ first. absurd (fails.other first) }
 names_fail count old s is_old (fault.Shelf call) fails = tt
 names_fail count old s is_old fault.NoMemory fails = tt
@@ -233,11 +233,11 @@ module _ (from : List ℕ) (f g : Seen Folder) (w v : Seen Files) (counts : IfSo
   rests_free = some_after f.told g.told IsFree AtRest free (λ s t is. ap (λ (u : Folder). u.disk) is.settled ∙ ap at_rest (sym (ap (λ (u : Folder). u.disk.published) is.settled)))
 
   -- the other folder is none of the original tool
-  pub stops_there : (bad : OldCopyFault) → IfSome w.told (λ files. LookFails (folder_in from files) bad) → RisesExactlyIf f.faults g.faults false → folder_failed {T = Unit {0}} (Err bad) ≡ false → RisesExactlyIf w.faults v.faults (site_failed {T = Unit {0}} (Err bad)) → CopiesOld from (places f w) (places g v) (Err bad)
+  pub stops_there : (bad : OldCopyFault) → IfSome w.told (λ files. CopyLookFails (folder_in from files) bad) → RisesExactlyIf f.faults g.faults false → folder_failed {T = Unit {0}} (Err bad) ≡ false → RisesExactlyIf w.faults v.faults (site_failed {T = Unit {0}} (Err bad)) → CopiesOld from (places f w) (places g v) (Err bad)
   stops_there bad fails folder quiet site = record {
     same = same;
     copied = tt;
-    refused = by_known from w.told (λ old. LookFails old bad) f.told g.told (λ old s t. CopyFails old s.disk.published bad) fails (λ old is. goes_weaker f.told g.told Settled (λ s t. CopyFails old s.disk.published bad) settled (λ s t p. there_fails old s.disk.published bad is));
+    refused = by_known from w.told (λ old. CopyLookFails old bad) f.told g.told (λ old s t. CopyFails old s.disk.published bad) fails (λ old is. goes_weaker f.told g.told Settled (λ s t. CopyFails old s.disk.published bad) settled (λ s t p. there_fails old s.disk.published bad is));
     any_moment = told_or_not from w.told f.told g.told PassesTaking (λ old. goes_beside f.told g.told counts settled (TakingBeside old));
     folder = subst (RisesExactlyIf f.faults g.faults) (sym quiet) folder;
     site = site;
@@ -255,11 +255,11 @@ module _ (from : List ℕ) (f g : Seen Folder) (w v : Seen Files) (counts : IfSo
     rests_all = some_after f.told h.told IsFree AtRest free_all (λ s t is. ap (λ (u : Folder). u.disk) is.settled ∙ ap at_rest (sym (ap (λ (u : Folder). u.disk.published) is.settled)))
 
     -- other files stand here
-    pub stops_at_names : (bad : OldCopyFault) → IfSome g.told (NamesFail count bad) → RisesExactlyIf f.faults h.faults (folder_failed {T = Unit {0}} (Err bad)) → site_failed {T = Unit {0}} (Err bad) ≡ false → RisesExactlyIf w.faults v.faults false → CopiesOld from (places f w) (places h v) (Err bad)
+    pub stops_at_names : (bad : OldCopyFault) → IfSome g.told (CopyNamesFail count bad) → RisesExactlyIf f.faults h.faults (folder_failed {T = Unit {0}} (Err bad)) → site_failed {T = Unit {0}} (Err bad) ≡ false → RisesExactlyIf w.faults v.faults false → CopiesOld from (places f w) (places h v) (Err bad)
     stops_at_names bad fails folder quiet site = record {
       same = same;
       copied = tt;
-      refused = by_known from w.told (IsOldFolder count) f.told h.told (λ old s t. CopyFails old s.disk.published bad) is_old (λ old is. goes_then f.told g.told h.told Settled (λ m t. NamesFail count bad m × Stays m t) (λ s t. CopyFails old s.disk.published bad) settled (goes_with g.told h.told (NamesFail count bad) Stays fails stays) (λ s m t p q. subst (λ (files : Files). CopyFails old files bad) (ap (λ (u : Folder). u.disk.published) p) (names_fail count old m is bad q.0)));
+      refused = by_known from w.told (IsOldFolder count) f.told h.told (λ old s t. CopyFails old s.disk.published bad) is_old (λ old is. goes_then f.told g.told h.told Settled (λ m t. CopyNamesFail count bad m × Stays m t) (λ s t. CopyFails old s.disk.published bad) settled (goes_with g.told h.told (CopyNamesFail count bad) Stays fails stays) (λ s m t p q. subst (λ (files : Files). CopyFails old files bad) (ap (λ (u : Folder). u.disk.published) p) (names_fail count old m is bad q.0)));
       any_moment = told_or_not from w.told f.told h.told PassesTaking (λ old. goes_beside f.told h.told counts settled_all (TakingBeside old));
       folder = folder;
       site = subst (RisesExactlyIf w.faults v.faults) (sym quiet) site;

@@ -17,12 +17,12 @@ use Rattle.old_copies.specs.declared.faults.OldCopyFault.TheVariants.{Here, OldH
 -- ---- the other folder
 
 -- the path of a file of the folder of this path
-abbrev pub path_in : List ℕ → List ℕ → List ℕ
-path_in from name = from ++ 47 ∷ name
+abbrev pub path_below : List ℕ → List ℕ → List ℕ
+path_below from name = from ++ 47 ∷ name
 
 -- the files of that folder by their names, of all files by their paths
 abbrev pub folder_in : List ℕ → Files → Files
-folder_in from files = λ name. files (path_in from name)
+folder_in from files = λ name. files (path_below from name)
 
 -- ---- the names that are copied
 
@@ -119,12 +119,12 @@ pub record CopyStep {T : Type 0} (Of : List ℕ → Type 0) (from : List ℕ) (b
 -- ---- the whole
 
 -- some files but `format` were copied, or all were
-abbrev pub IsOnTheWay : ℕ → (old files image : Files) → Type 0
-IsOnTheWay count old files image = Between (IsCopiedFirst count) old files image ⊎ HasCopies (IsCopied count) old files image
+abbrev pub IsBeingCopied : ℕ → (old files image : Files) → Type 0
+IsBeingCopied count old files image = Between (IsCopiedFirst count) old files image ⊎ HasCopies (IsCopied count) old files image
 
 -- a stop at each moment leaves what one at the first might have left, or files on the way
 abbrev pub PassesWay : ℕ → (old : Files) → Folder → Folder → Type 0
-PassesWay count old s t = Passes (λ image. IsImage s.disk image ⊎ IsOnTheWay count old s.disk.published image) s t
+PassesWay count old s t = Passes (λ image. IsImage s.disk image ⊎ IsBeingCopied count old s.disk.published image) s t
 
 -- All files are copied, where there are so many runs; or why not.
 pub record CopiesAll {T : Type 0} (count : ℕ) (from : List ℕ) (before after : Places) (result : Result T OldCopyFault) : Type 0 where
@@ -138,7 +138,7 @@ pub record IsOldFolder (count : ℕ) (old : Files) : Type 0 where
 
 -- the same of a number that is not given
 abbrev pub PassesTaking : (old : Files) → Folder → Folder → Type 0
-PassesTaking old s t = Passes (λ image. IsImage s.disk image ⊎ ((count : ℕ) × IsOldFolder count old × IsOnTheWay count old s.disk.published image)) s t
+PassesTaking old s t = Passes (λ image. IsImage s.disk image ⊎ ((count : ℕ) × IsOldFolder count old × IsBeingCopied count old s.disk.published image)) s t
 
 -- The folder here was none of the two tools, and held no file but those of the other one. It is a folder of the original tool
 -- now: its files are those of the other one, as many runs as that tells.

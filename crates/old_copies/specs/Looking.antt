@@ -48,11 +48,11 @@ pub record HasOtherName (count : ℕ) (files : Files) : Type 0 where
   pub other : IsCopiedFirst count name → ⊥
 
 -- why the names are not known to be such
-abbrev pub NamesFail : ℕ → OldCopyFault → Folder → Type 0
-NamesFail count OtherFiles s = HasOtherName count s.disk.published
-NamesFail count (Shelf call) s = ⊤
-NamesFail count NoMemory s = ⊤
-NamesFail count fault s = ⊥
+abbrev pub CopyNamesFail : ℕ → OldCopyFault → Folder → Type 0
+CopyNamesFail count OtherFiles s = HasOtherName count s.disk.published
+CopyNamesFail count (Shelf call) s = ⊤
+CopyNamesFail count NoMemory s = ⊤
+CopyNamesFail count fault s = ⊥
 
 -- ---- the other folder
 
@@ -83,14 +83,14 @@ copy_fault (look.Shelf call) = NoMemory
 copy_fault look.NoMemory = NoMemory
 
 -- why the other folder is none of the original tool
-abbrev pub LookFails : (old : Files) → OldCopyFault → Type 0
-LookFails old NoStore = old format_name ≡ None
-LookFails old NotOld = HasFormat old
-LookFails old UnknownFormat = HasStrangeFormat old
-LookFails old BadCount = LacksCount old
-LookFails old Site = ⊤
-LookFails old NoMemory = ⊤
-LookFails old fault = ⊥
+abbrev pub CopyLookFails : (old : Files) → OldCopyFault → Type 0
+CopyLookFails old NoStore = old format_name ≡ None
+CopyLookFails old NotOld = HasFormat old
+CopyLookFails old UnknownFormat = HasStrangeFormat old
+CopyLookFails old BadCount = LacksCount old
+CopyLookFails old Site = ⊤
+CopyLookFails old NoMemory = ⊤
+CopyLookFails old fault = ⊥
 
 -- ---- one file
 

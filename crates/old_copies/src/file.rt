@@ -6,7 +6,7 @@ ghost use Rattle.edge_io.specs.Steps.{Goes, Stays, HasDraft};
 ghost use Rattle.run_shelf.specs.Drafts.{OfDraft, Writes, DraftFails, PlaceFails};
 ghost use Rattle.run_shelf.specs.Images.{AtRest, KeepsFile, PassesFile};
 ghost use Rattle.run_shelf.specs.Outcomes.{KeepFails};
-ghost use Rattle.old_copies.specs.Copying.{path_in, folder_in, places, IsName, CopyStep, folder_failed, site_failed};
+ghost use Rattle.old_copies.specs.Copying.{path_below, folder_in, places, IsName, CopyStep, folder_failed, site_failed};
 ghost use Rattle.old_copies.specs.Looking.{Compares, IsOfFolder, IsOfSite};
 
 use crate::OldCopyFault;
@@ -27,7 +27,7 @@ pub(crate) fn copy_file<F: Site, H: Shelf>(
     requires rest { IfSome (H.seen shelf.old).told AtRest }
     ensures { CopyStep (IsName name.now) from.now (places (H.seen shelf.old) (F.seen site.old)) (places (H.seen shelf.new) (F.seen site.new)) result }
 {
-    let there = match read_there(alloc, site, from, name) {
+    let there = match read_source_file(alloc, site, from, name) {
         Ok(there) => there,
         Err(fault) => return Err(fault),
     };
@@ -77,7 +77,7 @@ fn compare(there: Option<Bytes>, here: Option<Bytes>) -> Compared
 }
 
 /// The bytes of the file of this name in the folder of that path, and `None` exactly where it is not there.
-pub(crate) fn read_there<F: Site>(
+pub(crate) fn read_source_file<F: Site>(
     alloc: Global,
     site: &mut F,
     from: &str,
@@ -102,7 +102,7 @@ pub(crate) fn read_there<F: Site>(
 
 // The path of the file of this name in the folder of that path.
 fn path_of(alloc: Global, from: &str, name: &str) -> Result<String, NoMemory>
-    ensures { IfOk result (λ path. string_bytes path ≡ path_in from.now name.now) }
+    ensures { IfOk result (λ path. string_bytes path ≡ path_below from.now name.now) }
 {
     let mut path = String::from_str(alloc, from)?;
     path.push_str("/")?;

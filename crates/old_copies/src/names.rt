@@ -6,7 +6,7 @@ ghost use Rattle.edge_io.specs.Steps.{Goes, Stays};
 ghost use Rattle.run_shelf.specs.Names.{SpellsRunNumber, SpellsNoRunNumber};
 ghost use Rattle.run_shelf.specs.Repository.{most_runs, full_name};
 ghost use Rattle.old_copies.specs.Copying.{IsCopiedFirst, IsRunBelow, folder_failed, site_failed};
-ghost use Rattle.old_copies.specs.Looking.{HoldsNoOther, HasOtherIn, NamesFail};
+ghost use Rattle.old_copies.specs.Looking.{HoldsNoOther, HasOtherIn, CopyNamesFail};
 
 use crate::OldCopyFault;
 use arrayvec::ArrayString;
@@ -46,7 +46,7 @@ pub(crate) fn check_names<H: Shelf>(
 ) -> Result<(), OldCopyFault>
     requires few { count ≤ most_runs }
     ensures alone { OnOk result (IfSome (H.seen shelf.old).told (HoldsNoOther count)) }
-    ensures refused { IfErr result (λ fault. IfSome (H.seen shelf.old).told (NamesFail count fault)) }
+    ensures refused { IfErr result (λ fault. IfSome (H.seen shelf.old).told (CopyNamesFail count fault)) }
     ensures same { Goes (H.seen shelf.old).told (H.seen shelf.new).told Stays }
     ensures quiet { site_failed result ≡ false }
     ensures cause { RisesExactlyIf (H.seen shelf.old).faults (H.seen shelf.new).faults (folder_failed result) }

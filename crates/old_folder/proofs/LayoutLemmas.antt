@@ -8,10 +8,10 @@ use Rattle.edge_io.specs.Steps.{Goes, Stays}
 use Rattle.run_shelf.specs.Adoption.{IsOld, old_format_bytes}
 use Rattle.run_shelf.specs.Repository.{format_name, format_bytes, based_format_bytes, HasFormat}
 use Rattle.run_shelf.proofs.LookSteps.{goes_known}
-use Rattle.old_folder.specs.Looking.{IsShort, layout_of, HasStrangeFormat}
-use Rattle.old_folder.specs.Olds.{next_name, next_of, next_in, count_in, trim}
-use Rattle.old_folder.specs.declared.looking.Layout.TheVariants.{Old, Ours, Other}
-use Rattle.old_folder.specs.declared.short.Short.TheVariants.{Absent, Long, Whole}
+use Rattle.old_folder.specs.Looking.{IsShortRead, layout_of, HasStrangeFormat}
+use Rattle.old_folder.specs.Olds.{next_name, next_of, next_in, count_in, trim_white_space}
+use Rattle.old_folder.specs.declared.folder_survey.Layout.TheVariants.{Old, Ours, Other}
+use Rattle.old_folder.specs.declared.short_file.Short.TheVariants.{Absent, Long, Whole}
 
 module _ (bytes : List ℕ) where
   old_by : (old ours : Bool) → (if old then Old else if ours then Ours else Other) ≡ Old → old ≡ true
@@ -89,21 +89,21 @@ module _ (bytes : List ℕ) where
 
 -- where the folder is told or not
 module _ (a b : Option Folder) (same : Goes a b Stays) (buf : List ℕ) where
-  pub goes_absent : IfSome a (λ s. IsShort (s.disk.published format_name) buf Absent) → Goes a b (λ s t. s.disk.published format_name ≡ None)
+  pub goes_absent : IfSome a (λ s. IsShortRead (s.disk.published format_name) buf Absent) → Goes a b (λ s t. s.disk.published format_name ≡ None)
   goes_absent found = goes_known a b same (λ s. s.disk.published format_name ≡ None) found
 
-  long_known : (a : Option Folder) → IfSome a (λ s. IsShort (s.disk.published format_name) buf Long) → IfSome a (λ s. HasStrangeFormat s.disk.published)
+  long_known : (a : Option Folder) → IfSome a (λ s. IsShortRead (s.disk.published format_name) buf Long) → IfSome a (λ s. HasStrangeFormat s.disk.published)
   long_known None found = tt
   long_known (Some s) found = long_format found.0 s.disk.published found.1 found.2
 
-  pub goes_long : IfSome a (λ s. IsShort (s.disk.published format_name) buf Long) → Goes a b (λ s t. HasStrangeFormat s.disk.published)
+  pub goes_long : IfSome a (λ s. IsShortRead (s.disk.published format_name) buf Long) → Goes a b (λ s t. HasStrangeFormat s.disk.published)
   goes_long found = goes_known a b same (λ s. HasStrangeFormat s.disk.published) (long_known a found)
 
-  module _ (count : ℕ) (found : IfSome a (λ s. IsShort (s.disk.published format_name) buf (Whole count))) where
+  module _ (count : ℕ) (found : IfSome a (λ s. IsShortRead (s.disk.published format_name) buf (Whole count))) where
     known : (P : Files → Type 0) → ((files : Files) → files format_name ≡ Some (take count buf) → P files) → IfSome a (λ s. P s.disk.published)
     known P by = each a found
       where
-        each : (a : Option Folder) → IfSome a (λ s. IsShort (s.disk.published format_name) buf (Whole count)) → IfSome a (λ s. P s.disk.published)
+        each : (a : Option Folder) → IfSome a (λ s. IsShortRead (s.disk.published format_name) buf (Whole count)) → IfSome a (λ s. P s.disk.published)
         each None found = tt
         each (Some s) found = by s.disk.published found.0
 
@@ -123,19 +123,19 @@ module _ (buf : List ℕ) where
   absent_in (Some bytes) is = cc
 
   long_in : (o : Option (List ℕ)) (bytes : List ℕ) → o ≡ Some bytes → 64 < length bytes → None ≡ next_in o
-  long_in o bytes is more = sym (ap next_in is ∙ cond-false (nat_le (length bytes) 64) (count_in (trim bytes)) None (lt-leb (length bytes) 64 more))
+  long_in o bytes is more = sym (ap next_in is ∙ cond-false (nat_le (length bytes) 64) (count_in (trim_white_space bytes)) None (lt-leb (length bytes) 64 more))
 
-  whole_in : (o : Option (List ℕ)) (bytes : List ℕ) → o ≡ Some bytes → length bytes ≤ 64 → count_in (trim bytes) ≡ next_in o
-  whole_in o bytes is few = sym (ap next_in is ∙ cond-true (nat_le (length bytes) 64) (count_in (trim bytes)) None (le-leb (length bytes) 64 few))
+  whole_in : (o : Option (List ℕ)) (bytes : List ℕ) → o ≡ Some bytes → length bytes ≤ 64 → count_in (trim_white_space bytes) ≡ next_in o
+  whole_in o bytes is few = sym (ap next_in is ∙ cond-true (nat_le (length bytes) 64) (count_in (trim_white_space bytes)) None (le-leb (length bytes) 64 few))
 
-  pub next_absent : (a : Option Folder) → IfSome a (λ s. IsShort (s.disk.published next_name) buf Absent) → IfSome a (λ s. None ≡ next_of s.disk.published)
+  pub next_absent : (a : Option Folder) → IfSome a (λ s. IsShortRead (s.disk.published next_name) buf Absent) → IfSome a (λ s. None ≡ next_of s.disk.published)
   next_absent None found = tt
   next_absent (Some s) found = absent_in (s.disk.published next_name) found
 
-  pub next_long : (a : Option Folder) → IfSome a (λ s. IsShort (s.disk.published next_name) buf Long) → IfSome a (λ s. None ≡ next_of s.disk.published)
+  pub next_long : (a : Option Folder) → IfSome a (λ s. IsShortRead (s.disk.published next_name) buf Long) → IfSome a (λ s. None ≡ next_of s.disk.published)
   next_long None found = tt
   next_long (Some s) found = long_in (s.disk.published next_name) found.0 found.1 found.2
 
-  pub next_whole : (a : Option Folder) (count : ℕ) → IfSome a (λ s. IsShort (s.disk.published next_name) buf (Whole count)) → IfSome a (λ s. count_in (trim (take count buf)) ≡ next_of s.disk.published)
+  pub next_whole : (a : Option Folder) (count : ℕ) → IfSome a (λ s. IsShortRead (s.disk.published next_name) buf (Whole count)) → IfSome a (λ s. count_in (trim_white_space (take count buf)) ≡ next_of s.disk.published)
   next_whole None count found = tt
   next_whole (Some s) count found = whole_in (s.disk.published next_name) (take count buf) found.0 found.1

@@ -11,18 +11,18 @@ use Rattle.run_shelf.specs.Repository.{format_name, format_bytes, based_format_b
 use Rattle.old_folder.specs.Olds.{most_short, next_of, IsOldWith}
 use Rattle.old_folder.specs.declared.faults.OldFault.{OldFault}
 use Rattle.old_folder.specs.declared.faults.OldFault.TheVariants.{NoStore, NotOld, UnknownFormat, BadCount, Shelf, NoMemory}
-use Rattle.old_folder.specs.declared.looking.Layout.{Layout}
-use Rattle.old_folder.specs.declared.looking.Layout.TheVariants.{Old, Ours, Other}
-use Rattle.old_folder.specs.declared.short.Short.{Short}
-use Rattle.old_folder.specs.declared.short.Short.TheVariants.{Absent, Long, Whole}
+use Rattle.old_folder.specs.declared.folder_survey.Layout.{Layout}
+use Rattle.old_folder.specs.declared.folder_survey.Layout.TheVariants.{Old, Ours, Other}
+use Rattle.old_folder.specs.declared.short_file.Short.{Short}
+use Rattle.old_folder.specs.declared.short_file.Short.TheVariants.{Absent, Long, Whole}
 
 -- ---- a short file
 
 -- what a read of the file found: none, or that it is long, or all its bytes at the front of the buffer
-abbrev pub IsShort : Option (List ℕ) → List ℕ → Short → Type 0
-IsShort file buf Absent = file ≡ None
-IsShort file buf Long = (bytes : List ℕ) × (file ≡ Some bytes) × (most_short < length bytes)
-IsShort file buf (Whole count) = (file ≡ Some (take count buf)) × (length (take count buf) ≤ most_short)
+abbrev pub IsShortRead : Option (List ℕ) → List ℕ → Short → Type 0
+IsShortRead file buf Absent = file ≡ None
+IsShortRead file buf Long = (bytes : List ℕ) × (file ≡ Some bytes) × (most_short < length bytes)
+IsShortRead file buf (Whole count) = (file ≡ Some (take count buf)) × (length (take count buf) ≤ most_short)
 
 -- how many bytes were read
 abbrev pub bytes_read : Short → ℕ

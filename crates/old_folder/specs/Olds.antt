@@ -32,32 +32,32 @@ IsNumbered file = (number : ℕ) → file ≡ Run number → number < most_runs
 -- ---- the number that comes next
 
 -- a space, a tab, a newline, a vertical tab, a form feed or a carriage return
-abbrev pub is_blank : ℕ → Bool
-is_blank byte = byte == 32 || (nat_le 9 byte && nat_le byte 13)
+abbrev pub is_white_space : ℕ → Bool
+is_white_space byte = byte == 32 || (nat_le 9 byte && nat_le byte 13)
 
 -- without the blanks at the front
-abbrev pub trim_start : List ℕ → List ℕ
-trim_start bytes = drop (prefix_len is_blank bytes) bytes
+abbrev pub trim_white_space_start : List ℕ → List ℕ
+trim_white_space_start bytes = drop (prefix_len is_white_space bytes) bytes
 
 -- without the blanks at the end
-abbrev pub trim_end : List ℕ → List ℕ
-trim_end bytes = take (length bytes - suffix_len is_blank bytes) bytes
+abbrev pub trim_white_space_end : List ℕ → List ℕ
+trim_white_space_end bytes = take (length bytes - suffix_len is_white_space bytes) bytes
 
 -- the bytes without the blanks at both ends
-abbrev pub trim : List ℕ → List ℕ
-trim bytes = trim_end (trim_start bytes)
+abbrev pub trim_white_space : List ℕ → List ℕ
+trim_white_space bytes = trim_white_space_end (trim_white_space_start bytes)
 
 -- the bytes are digits
 abbrev pub are_digits : List ℕ → Bool
 are_digits bytes = list_all is_ascii_digit bytes
 
 -- one to seven digits, of a number of runs that a repository has room for
-abbrev pub is_count : List ℕ → Bool
-is_count bytes = are_digits bytes && (nat_le 1 (length bytes) && (nat_le (length bytes) 7 && nat_le (digits_value 10 bytes) most_runs))
+abbrev pub is_run_count : List ℕ → Bool
+is_run_count bytes = are_digits bytes && (nat_le 1 (length bytes) && (nat_le (length bytes) 7 && nat_le (digits_value 10 bytes) most_runs))
 
 -- the number of these digits, where they are such a number
 abbrev pub count_in : List ℕ → Option ℕ
-count_in bytes = if is_count bytes then Some (digits_value 10 bytes) else None
+count_in bytes = if is_run_count bytes then Some (digits_value 10 bytes) else None
 
 -- how many bytes `next-stream` has at most
 abbrev pub most_short : ℕ
@@ -66,7 +66,7 @@ most_short = 64
 -- the number that `next-stream` tells, by what it holds; none where it is not there
 abbrev pub next_in : Option (List ℕ) → Option ℕ
 next_in None = None
-next_in (Some bytes) = if nat_le (length bytes) most_short then count_in (trim bytes) else None
+next_in (Some bytes) = if nat_le (length bytes) most_short then count_in (trim_white_space bytes) else None
 
 -- the same of files
 abbrev pub next_of : Files → Option ℕ

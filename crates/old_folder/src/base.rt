@@ -7,7 +7,7 @@ ghost use Rattle.std.specs.List.Sorted.{IsStrictlySortedBy};
 ghost use Rattle.std.specs.Ordering.{nat_cmp};
 ghost use Rattle.sub_number.specs.Texts.{IsShortText};
 ghost use Rattle.run_shelf.specs.Bases.{base_in, base_title, HoldsBase};
-ghost use Rattle.run_shelf.specs.IdFiles.{entry, id_file};
+ghost use Rattle.run_shelf.specs.IdFiles.{with_zero, id_file};
 ghost use Rattle.run_shelf.specs.Repository.{most_runs};
 
 use itoa::Buffer;
@@ -42,7 +42,7 @@ fn written(alloc: Global, count: u32, ids: &IdList) -> Result<Bytes, NoMemory>
 
 // Each id, and a zero byte behind it.
 fn write_entries(ids: &[Text], bytes: &mut Vec<u8>) -> Result<(), NoMemory>
-    ensures bytes { OnOk result (bytes.new.items ≡ bytes.old.items ++ flat_map entry ids.now) }
+    ensures bytes { OnOk result (bytes.new.items ≡ bytes.old.items ++ flat_map with_zero ids.now) }
     ensures texts { OnOk result (All IsShortText ids.now) }
 {
     for id in ids {

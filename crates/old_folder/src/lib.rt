@@ -1,10 +1,10 @@
 //! A folder of runs that the original tool made: a look at it, its files, and what an upgrade makes of it.
 //!
 //! - `faults`: why a folder is not taken for one of the original tool
-//! - `short`: a short file, read at once
-//! - `next`: the number that comes next, as that tool spells it
+//! - `short_file`: a short file, read at once
+//! - `next_number`: the number that comes next, as that tool spells it
 //! - `names`: the names of the files of runs, and how many runs there are by them
-//! - `looking`: the look at a folder: its format, its names, and its number that comes next
+//! - `folder_survey`: the look at a folder: its format, its names, and its number that comes next
 //! - `files`: the files that are read whole, by pieces
 //! - `base`: the bytes of a base
 //! - `laws`: what stays of the folder while its runs are converted, and what it is behind that
@@ -15,14 +15,14 @@
 mod base;
 mod faults;
 mod files;
+mod folder_survey;
 mod laws;
-mod looking;
 mod names;
-mod next;
-mod short;
+mod next_number;
+mod short_file;
 
 pub use base::base_bytes;
 pub use faults::OldFault;
 pub use files::{OldName, old_length, read_old};
+pub use folder_survey::survey_old;
 pub use laws::{conversions_go_on, old_folders_stay_open};
-pub use looking::survey_old;

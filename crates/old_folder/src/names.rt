@@ -24,7 +24,7 @@ pub(crate) fn run_name(number: u32) -> ArrayString<16>
 
 /// How many runs there are by these names, where this number comes next: as many, or one more than the greatest number that
 /// has a file. Each name is read once.
-pub(crate) fn count_of(names: &[Text], next: u32) -> u32
+pub(crate) fn run_count(names: &[Text], next: u32) -> u32
     requires { next ≤ most_runs }
     ensures { NamesCount names.now next result }
 {

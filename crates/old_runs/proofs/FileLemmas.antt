@@ -23,12 +23,12 @@ use Rattle.old_runs.specs.declared.stream.OldStream.{OldStream}
 use Rattle.old_runs.specs.declared.file.Kind.{Kind}
 use Rattle.old_runs.specs.declared.file.Kind.TheVariants as kind
 use Rattle.old_runs.specs.declared.file.OldFile.{OldFile}
-use Rattle.old_runs.specs.declared.failing.OldFailing.{OldFailing}
+use Rattle.old_runs.specs.declared.failing_tests.OldFailing.{OldFailing}
 use Rattle.old_runs.specs.Files.{is_stream, AreEventsBy, IsOldFile, AreFailingIn, has_id, HasOpenParts, inputs_in, IsCutOff, TellsNoTest, IsDamaged}
-use Rattle.old_runs.specs.Giving.{Gives}
+use Rattle.old_runs.specs.Giving.{AppendsEvents}
 use Rattle.old_runs.specs.Lines.{HasFedLines}
 use Rattle.old_runs.specs.Streams.{HasFedStream}
-use Rattle.old_runs.specs.Fed.{IsReady, HasFedKind, HasFed, HasBegun, HasHeard}
+use Rattle.old_runs.specs.Fed.{CanBeFed, HasFedKind, HasFed, HasBegun, HasHeardFile}
 use Rattle.old_runs.proofs.LineLemmas.{none_given}
 use Rattle.old_runs.proofs.PacketLemmas.{gives_none, gives_so}
 
@@ -94,7 +94,7 @@ some_bytes [] piece first rest is = ap (λ (l : List ℕ). nat_lt 0 (length l)) 
 some_bytes (byte ∷ bytes) piece first rest is = lt-ltb 0 (length (byte ∷ bytes ++ piece)) (omega arith)
 
 -- no bytes were fed
-pub file_none : (file : OldFile) (bytes piece : List ℕ) (given : List Event) (old : List ℕ) → length piece ≡ 0 → HasFed file bytes given → Gives old old (λ more. HasFed file (bytes ++ piece) (given ++ more))
+pub file_none : (file : OldFile) (bytes piece : List ℕ) (given : List Event) (old : List ℕ) → length piece ≡ 0 → HasFed file bytes given → AppendsEvents old old (λ more. HasFed file (bytes ++ piece) (given ++ more))
 file_none file bytes [] given old none h = gives_none (HasFed file (bytes ++ [])) old given (subst (λ (l : List ℕ). HasFed file l given) (sym (append-nil bytes)) h)
 file_none file bytes (byte ∷ piece) given old none h = absurd (omega (arith, none))
 
@@ -103,9 +103,9 @@ first_is [] first d some is = absurd (omega (arith, some))
 first_is (byte ∷ piece) first d some is = ap (λ n. n ∷ piece) (sym is)
 
 -- more bytes were fed
-pub file_more : (mid after : OldFile) (bytes piece : List ℕ) (first : ℕ) (rest : List ℕ) (given : List Event) (old new : List ℕ) → piece ≡ first ∷ rest → AreBytes piece → IsReady after.kind → after.begun ≡ mid.begun
-    → ((stream : Bool) (bytes : List ℕ) (given : List Event) → HasFedKind stream mid.kind bytes given → Gives old new (λ more. HasFedKind stream after.kind (bytes ++ piece) (given ++ more)))
-    → HasBegun mid bytes given first → Gives old new (λ more. HasFed after (bytes ++ piece) (given ++ more))
+pub file_more : (mid after : OldFile) (bytes piece : List ℕ) (first : ℕ) (rest : List ℕ) (given : List Event) (old new : List ℕ) → piece ≡ first ∷ rest → AreBytes piece → CanBeFed after.kind → after.begun ≡ mid.begun
+    → ((stream : Bool) (bytes : List ℕ) (given : List Event) → HasFedKind stream mid.kind bytes given → AppendsEvents old new (λ more. HasFedKind stream after.kind (bytes ++ piece) (given ++ more)))
+    → HasBegun mid bytes given first → AppendsEvents old new (λ more. HasFed after (bytes ++ piece) (given ++ more))
 file_more mid after bytes piece first rest given old new is are ready same feeds h =
     let stream = is_stream (bytes ++ first ∷ []) in
     gives_so (λ more. HasFedKind stream after.kind (bytes ++ piece) (given ++ more)) (λ more. HasFed after (bytes ++ piece) (given ++ more)) old new (feeds stream bytes given h.fed) (λ more fed. record {
@@ -136,12 +136,12 @@ fed_stream file stream bytes given is h = either (is_stream bytes) (subst (λ (k
     either true fed = (refl, fed)
     either false fed = absurd fed
 
-pub lines_events : (bytes old new : List ℕ) (given : List Event) (told : Bool) → is_stream bytes ≡ false → Gives old new (λ more. (given ++ more ≡ v1_events (lines_of bytes)) × (told ≡ list_any has_id (given ++ more))) → Gives old new (λ more. IsOldFile bytes (given ++ more))
+pub lines_events : (bytes old new : List ℕ) (given : List Event) (told : Bool) → is_stream bytes ≡ false → AppendsEvents old new (λ more. (given ++ more ≡ v1_events (lines_of bytes)) × (told ≡ list_any has_id (given ++ more))) → AppendsEvents old new (λ more. IsOldFile bytes (given ++ more))
 lines_events bytes old new given told is g =
     gives_so (λ more. (given ++ more ≡ v1_events (lines_of bytes)) × (told ≡ list_any has_id (given ++ more))) (λ more. IsOldFile bytes (given ++ more)) old new g
     (λ more says. subst (λ (b : Bool). AreEventsBy b bytes (given ++ more)) (sym is) says.0)
 
-pub stream_events : (bytes old new : List ℕ) (given : List Event) (told : Bool) → is_stream bytes ≡ true → Gives old new (λ more. HasEvents bytes (given ++ more) × (told ≡ list_any has_id (given ++ more))) → Gives old new (λ more. IsOldFile bytes (given ++ more))
+pub stream_events : (bytes old new : List ℕ) (given : List Event) (told : Bool) → is_stream bytes ≡ true → AppendsEvents old new (λ more. HasEvents bytes (given ++ more) × (told ≡ list_any has_id (given ++ more))) → AppendsEvents old new (λ more. IsOldFile bytes (given ++ more))
 stream_events bytes old new given told is g =
     gives_so (λ more. HasEvents bytes (given ++ more) × (told ≡ list_any has_id (given ++ more))) (λ more. IsOldFile bytes (given ++ more)) old new g
     (λ more says. subst (λ (b : Bool). AreEventsBy b bytes (given ++ more)) (sym is) says.0)
@@ -151,7 +151,7 @@ tells_none : (bytes : List ℕ) (events : List Event) → AreBytes bytes → IsO
 tells_none bytes events are told h = ap (list_any has_id) (one_events bytes events h.events are told h.told) ∙ h.none
 
 pub lines_damaged : (file : OldFile) (bytes old new : List ℕ) (given : List Event) (told unclosed damaged : Bool) → is_stream bytes ≡ false → HasFed file bytes given
-    → Gives old new (λ more. (given ++ more ≡ v1_events (lines_of bytes)) × (told ≡ list_any has_id (given ++ more))) → ((unclosed ≡ true) ↔ HasOpenParts (inputs_in bytes)) → damaged ≡ (unclosed || (file.begun && not told)) → IsTrue damaged ↔ IsDamaged bytes
+    → AppendsEvents old new (λ more. (given ++ more ≡ v1_events (lines_of bytes)) × (told ≡ list_any has_id (given ++ more))) → ((unclosed ≡ true) ↔ HasOpenParts (inputs_in bytes)) → damaged ≡ (unclosed || (file.begun && not told)) → IsTrue damaged ↔ IsDamaged bytes
 lines_damaged file bytes old new given told unclosed damaged is h g parts same =
     let events = given ++ g.more in
     let old_file : IsOldFile bytes events = subst (λ (b : Bool). AreEventsBy b bytes events) (sym is) g.holds.0 in (
@@ -176,7 +176,7 @@ stream_some : (bytes : List ℕ) → is_stream bytes ≡ true → 0 < length byt
 stream_some [] is = absurd cc
 stream_some (byte ∷ bytes) is = omega arith
 
-pub stream_damaged : (bytes old new : List ℕ) (given : List Event) (told damaged : Bool) → AreBytes bytes → is_stream bytes ≡ true → Gives old new (λ more. HasEvents bytes (given ++ more) × (told ≡ list_any has_id (given ++ more))) → damaged ≡ not told → IsTrue damaged ↔ IsDamaged bytes
+pub stream_damaged : (bytes old new : List ℕ) (given : List Event) (told damaged : Bool) → AreBytes bytes → is_stream bytes ≡ true → AppendsEvents old new (λ more. HasEvents bytes (given ++ more) × (told ≡ list_any has_id (given ++ more))) → damaged ≡ not told → IsTrue damaged ↔ IsDamaged bytes
 stream_damaged bytes old new given told damaged are is g same =
     let events = given ++ g.more in
     let old_file : IsOldFile bytes events = subst (λ (b : Bool). AreEventsBy b bytes events) (sym is) g.holds.0 in (
@@ -191,13 +191,13 @@ stream_damaged bytes old new given told damaged are is g same =
 -- ---- the tests that fail
 
 -- the packets that were appended to none
-pub given_packets : (P : List Event → Type 0) (old new shown : List ℕ) → old ≡ [] → shown ≡ new → (g : Gives old new P) → ArePacketsOf g.more shown
+pub given_packets : (P : List Event → Type 0) (old new shown : List ℕ) → old ≡ [] → shown ≡ new → (g : AppendsEvents old new P) → ArePacketsOf g.more shown
 given_packets P old new shown none is g = subst (ArePacketsOf g.more) (sym (is ∙ g.grown ∙ ap (λ (l : List ℕ). l ++ g.packets) none)) g.are
 
-pub failing_more : (before after : OldFailing) (bytes piece old new shown : List ℕ) → old ≡ [] → shown ≡ new → HasHeard before bytes
-    → ((bytes : List ℕ) (given : List Event) → HasFed before.file bytes given → Gives old new (λ more. HasFed after.file (bytes ++ piece) (given ++ more)))
+pub failing_more : (before after : OldFailing) (bytes piece old new shown : List ℕ) → old ≡ [] → shown ≡ new → HasHeardFile before bytes
+    → ((bytes : List ℕ) (given : List Event) → HasFed before.file bytes given → AppendsEvents old new (λ more. HasFed after.file (bytes ++ piece) (given ++ more)))
     → ((seen events : List Event) → ArePacketsOf events shown → HasFolded before.outcomes seen → HasFolded after.outcomes (seen ++ events))
-    → HasHeard after (bytes ++ piece)
+    → HasHeardFile after (bytes ++ piece)
 failing_more before after bytes piece old new shown none is h feeds folds =
     let g = feeds bytes h.events h.fed in
     record {
@@ -206,8 +206,8 @@ failing_more before after bytes piece old new shown none is h feeds folds =
       folded = folds h.events g.more (given_packets (λ more. HasFed after.file (bytes ++ piece) (h.events ++ more)) old new shown none is g) h.folded;
     }
 
-pub failing_all : (failing : OldFailing) (bytes old new shown : List ℕ) (outcomes : Outcomes) (rows : List Row) (ids : List (List ℕ)) → old ≡ [] → shown ≡ new → HasHeard failing bytes
-    → ((bytes : List ℕ) (given : List Event) → HasFed failing.file bytes given → Gives old new (λ more. IsOldFile bytes (given ++ more)))
+pub failing_all : (failing : OldFailing) (bytes old new shown : List ℕ) (outcomes : Outcomes) (rows : List Row) (ids : List (List ℕ)) → old ≡ [] → shown ≡ new → HasHeardFile failing bytes
+    → ((bytes : List ℕ) (given : List Event) → HasFed failing.file bytes given → AppendsEvents old new (λ more. IsOldFile bytes (given ++ more)))
     → ((seen events : List Event) → ArePacketsOf events shown → HasFolded failing.outcomes seen → HasFolded outcomes (seen ++ events))
     → ((seen : List Event) → HasFolded outcomes seen → rows ≡ rows_of seen) → ids ≡ failing_of rows → AreFailingIn bytes ids
 failing_all failing bytes old new shown outcomes rows ids none is h closes folds ends fail =

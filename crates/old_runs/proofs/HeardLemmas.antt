@@ -5,12 +5,12 @@ use Rattle.std.specs.List.{list_any}
 use Rattle.std.proofs.lemmas.Bool.{or_left, or_right, or_cases, and_parts}
 use Rattle.std.proofs.lemmas.List.Folds.{list_any-append}
 use Rattle.packet_codec.specs.declared.event.Event.{Event}
-use Rattle.v1_bridge.specs.Reading.{Input, line, piece, start, step, state_behind, given_behind}
+use Rattle.v1_bridge.specs.Reading.{Input, line, piece, start, step, state_behind, events_given_behind}
 use Rattle.v1_bridge.specs.Kept.{HasRead}
 use Rattle.v1_bridge.proofs.RunLemmas.{behind_push, from_push}
-use Rattle.old_runs.specs.declared.place.Place.{Place}
-use Rattle.old_runs.specs.declared.place.Place.TheVariants.{Outside, Lines, Parts}
-use Rattle.old_runs.specs.declared.heard.Heard.{Heard}
+use Rattle.old_runs.specs.declared.line_place.Place.{Place}
+use Rattle.old_runs.specs.declared.line_place.Place.TheVariants.{Outside, Lines, Parts}
+use Rattle.old_runs.specs.declared.heard_lines.Heard.{Heard}
 use Rattle.old_runs.specs.Places.{place_of, place_behind, IsAmongParts}
 use Rattle.old_runs.specs.Files.{has_id, lacks_id, HasForeignPart, HasOpenParts}
 use Rattle.old_runs.specs.Lines.{is_parts, HasHeardLines}
@@ -57,12 +57,12 @@ foreign_before inputs input h = record {
 }
 
 foreign_either : (inputs : List Input) (input : Input) → HasForeignPart (inputs ++ input ∷ [])
-    → (IsAmongParts (state_behind start inputs) × (list_any lacks_id (given_behind inputs input) ≡ true)) ⊎ HasForeignPart inputs
+    → (IsAmongParts (state_behind start inputs) × (list_any lacks_id (events_given_behind inputs input) ≡ true)) ⊎ HasForeignPart inputs
 foreign_either inputs input h =
     ⊎_elim
     (λ (here : (h.front ≡ inputs) × (h.input ≡ input)). inl (
       subst (λ (l : List Input). IsAmongParts (state_behind start l)) here.0 h.among,
-      sym (λ i. list_any lacks_id (given_behind (here.0 i) (here.1 i))) ∙ h.foreign,
+      sym (λ i. list_any lacks_id (events_given_behind (here.0 i) (here.1 i))) ∙ h.foreign,
     ))
     (λ (before : (behind : List Input) × (inputs ≡ h.front ++ h.input ∷ behind)). inr (record {
       front = h.front;
@@ -76,7 +76,7 @@ foreign_either inputs input h =
 
 -- a line more, and whether it is one among parts that gives an event without id
 broken_more : (inputs : List Input) (input : Input) (place : Place) (events : List Event) (before after : Bool)
-    → ((before ≡ true) ↔ HasForeignPart inputs) → place ≡ place_of (state_behind start inputs).open_test → events ≡ given_behind inputs input
+    → ((before ≡ true) ↔ HasForeignPart inputs) → place ≡ place_of (state_behind start inputs).open_test → events ≡ events_given_behind inputs input
     → after ≡ (before || (is_parts place && list_any lacks_id events)) → (after ≡ true) ↔ HasForeignPart (inputs ++ input ∷ [])
 broken_more inputs input place events before after so_far at given is = (
   λ broken.
@@ -95,7 +95,7 @@ broken_more inputs input place events before after so_far at given is = (
       (or_cases before (is_parts place && list_any lacks_id events) (sym is ∙ broken)),
   λ h.
       is ∙ ⊎_elim
-      (λ (here : IsAmongParts (state_behind start inputs) × (list_any lacks_id (given_behind inputs input) ≡ true)).
+      (λ (here : IsAmongParts (state_behind start inputs) × (list_any lacks_id (events_given_behind inputs input) ≡ true)).
       or_right before (is_parts place && list_any lacks_id events) ((λ i. is_parts_is place (at ∙ here.0) i && (ap (list_any lacks_id) given ∙ here.1) i)))
       (λ (was : HasForeignPart inputs). or_left before (is_parts place && list_any lacks_id events) (so_far.1 was))
       (foreign_either inputs input h),
@@ -103,7 +103,7 @@ broken_more inputs input place events before after so_far at given is = (
 
 -- ---- one line or piece more
 
-module _ (before after : Heard) (inputs : List Input) (input : Input) (given events : List Event) (h : HasHeardLines before inputs given) (gives : events ≡ given_behind inputs input)
+module _ (before after : Heard) (inputs : List Input) (input : Input) (given events : List Event) (h : HasHeardLines before inputs given) (gives : events ≡ events_given_behind inputs input)
     (told : after.told ≡ (before.told || list_any has_id events)) (broken : after.broken ≡ (before.broken || (is_parts before.place && list_any lacks_id events)))
     (read : HasRead after.reader (inputs ++ input ∷ [])) where
   heard_more : (place : Place) → after.place ≡ place → StepLands (step (state_behind start inputs) input) place → HasHeardLines after (inputs ++ input ∷ []) (given ++ events)
@@ -117,18 +117,18 @@ module _ (before after : Heard) (inputs : List Input) (input : Input) (given eve
   }
 
 -- none were heard, so these are all that the line gave
-alone : (inputs : List Input) (input : Input) (cleared events : List Event) → cleared ≡ [] → events ≡ cleared ++ given_behind inputs input → events ≡ given_behind inputs input
-alone inputs input cleared events none is = is ∙ ap (λ (l : List Event). l ++ given_behind inputs input) none
+alone : (inputs : List Input) (input : Input) (cleared events : List Event) → cleared ≡ [] → events ≡ cleared ++ events_given_behind inputs input → events ≡ events_given_behind inputs input
+alone inputs input cleared events none is = is ∙ ap (λ (l : List Event). l ++ events_given_behind inputs input) none
 
-pub heard_line : (before after : Heard) (inputs : List Input) (bytes : List _) (given cleared events : List Event) → HasHeardLines before inputs given → cleared ≡ [] → events ≡ cleared ++ given_behind inputs (line bytes)
+pub heard_line : (before after : Heard) (inputs : List Input) (bytes : List _) (given cleared events : List Event) → HasHeardLines before inputs given → cleared ≡ [] → events ≡ cleared ++ events_given_behind inputs (line bytes)
     → after.told ≡ (before.told || list_any has_id events) → after.broken ≡ (before.broken || (is_parts before.place && list_any lacks_id events)) → HasRead after.reader (inputs ++ line bytes ∷ [])
     → after.place ≡ place_behind before.place bytes events → HasHeardLines after (inputs ++ line bytes ∷ []) (given ++ events)
 heard_line before after inputs bytes given cleared events h none is told broken read place =
     let gives = alone inputs (line bytes) cleared events none is in
-    let at : after.place ≡ place_behind (place_of (state_behind start inputs).open_test) bytes (given_behind inputs (line bytes)) = place ∙ (λ i. place_behind (h.place i) bytes (gives i)) in
+    let at : after.place ≡ place_behind (place_of (state_behind start inputs).open_test) bytes (events_given_behind inputs (line bytes)) = place ∙ (λ i. place_behind (h.place i) bytes (gives i)) in
     heard_more before after inputs (line bytes) given events h gives told broken read _ at (line_lands_at (state_behind start inputs) bytes h.outcomes)
 
-pub heard_piece : (before after : Heard) (inputs : List Input) (bytes : List _) (last : Bool) (given cleared events : List Event) → HasHeardLines before inputs given → cleared ≡ [] → events ≡ cleared ++ given_behind inputs (piece bytes last)
+pub heard_piece : (before after : Heard) (inputs : List Input) (bytes : List _) (last : Bool) (given cleared events : List Event) → HasHeardLines before inputs given → cleared ≡ [] → events ≡ cleared ++ events_given_behind inputs (piece bytes last)
     → after.told ≡ (before.told || list_any has_id events) → after.broken ≡ (before.broken || (is_parts before.place && list_any lacks_id events)) → HasRead after.reader (inputs ++ piece bytes last ∷ [])
     → after.place ≡ before.place → HasHeardLines after (inputs ++ piece bytes last ∷ []) (given ++ events)
 heard_piece before after inputs bytes last given cleared events h none is told broken read place =

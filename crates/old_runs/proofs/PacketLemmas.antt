@@ -6,14 +6,14 @@ use Rattle.std.proofs.lemmas.List.Concat.{flat_map-append}
 use Rattle.std.proofs.lemmas.List.Elements.{All-nil, All-cons, All-append, All-head, All-tail}
 use Rattle.packet_codec.specs.declared.event.Event.{Event}
 use Rattle.packet_codec.specs.Canonical.{IsEvent, Fits, canonical}
-use Rattle.packet_codec.specs.Grammar.{Found}
+use Rattle.packet_codec.specs.Grammar.{SpellsFront}
 use Rattle.packet_codec.specs.Packet.{SpellsEvent}
 use Rattle.packet_codec.specs.Packets.{ArePackets, ArePacketsOf}
 use Rattle.packet_codec.proofs.SpellingLemmas.{canonical_spells}
 use Rattle.stream_reader.proofs.FrontLemmas.{packet_some}
 use Rattle.outcome_fold.specs.declared.fold.Outcomes.{Outcomes}
 use Rattle.outcome_fold.specs.Outcome.{HasFolded}
-use Rattle.old_runs.specs.Giving.{Gives}
+use Rattle.old_runs.specs.Giving.{AppendsEvents}
 
 -- ---- events that are handed on
 
@@ -28,20 +28,20 @@ no_packets : ArePacketsOf [] []
 no_packets = record { are_events = All-nil IsEvent; fit = All-nil Fits; packets = refl }
 
 -- none
-pub gives_none : (P : List Event → Type 0) (old : List ℕ) (given : List Event) → P given → Gives old old (λ more. P (given ++ more))
+pub gives_none : (P : List Event → Type 0) (old : List ℕ) (given : List Event) → P given → AppendsEvents old old (λ more. P (given ++ more))
 gives_none P old given holds = record { more = []; packets = []; are = no_packets; grown = sym (append-nil old); holds = subst P (sym (append-nil given)) holds }
 
 -- these
-pub gives_these : (P : List Event → Type 0) (old new : List ℕ) (events : List Event) → All IsEvent events → All Fits events → new ≡ old ++ flat_map canonical events → P events → Gives old new P
+pub gives_these : (P : List Event → Type 0) (old new : List ℕ) (events : List Event) → All IsEvent events → All Fits events → new ≡ old ++ flat_map canonical events → P events → AppendsEvents old new P
 gives_these P old new events are fit grown holds = record { more = events; packets = flat_map canonical events; are = record { are_events = are; fit = fit; packets = refl }; grown = grown; holds = holds }
 
 -- one
-pub gives_this : (P : List Event → Type 0) (old new : List ℕ) (event : Event) → IsEvent event → Fits event → new ≡ old ++ canonical event → P (event ∷ []) → Gives old new P
+pub gives_this : (P : List Event → Type 0) (old new : List ℕ) (event : Event) → IsEvent event → Fits event → new ≡ old ++ canonical event → P (event ∷ []) → AppendsEvents old new P
 gives_this P old new event is fits grown holds =
     gives_these P old new (event ∷ []) (All-cons IsEvent event [] is (All-nil IsEvent)) (All-cons Fits event [] fits (All-nil Fits)) (grown ∙ ap (λ (l : List ℕ). old ++ l) (sym (append-nil (canonical event)))) holds
 
 -- some, and then others
-pub gives_then : (P Q : List Event → Type 0) (old mid new : List ℕ) (given : List Event) → Gives old mid (λ more. P (given ++ more)) → ((so_far : List Event) → P so_far → Gives mid new (λ more. Q (so_far ++ more))) → Gives old new (λ more. Q (given ++ more))
+pub gives_then : (P Q : List Event → Type 0) (old mid new : List ℕ) (given : List Event) → AppendsEvents old mid (λ more. P (given ++ more)) → ((so_far : List Event) → P so_far → AppendsEvents mid new (λ more. Q (so_far ++ more))) → AppendsEvents old new (λ more. Q (given ++ more))
 gives_then P Q old mid new given first later =
     let next = later (given ++ first.more) first.holds in
     record {
@@ -53,7 +53,7 @@ gives_then P Q old mid new given first later =
     }
 
 -- the same of what they say
-pub gives_so : (P Q : List Event → Type 0) (old new : List ℕ) → Gives old new P → ((more : List Event) → P more → Q more) → Gives old new Q
+pub gives_so : (P Q : List Event → Type 0) (old new : List ℕ) → AppendsEvents old new P → ((more : List Event) → P more → Q more) → AppendsEvents old new Q
 gives_so P Q old new first says = record { more = first.more; packets = first.packets; are = first.are; grown = first.grown; holds = says first.more first.holds }
 
 -- ---- events, one after another
@@ -73,7 +73,7 @@ are_more events i event below is so_far one =
 -- ---- packets, one after another
 
 -- the packet of the first one stands at the front
-abbrev first_found : (event : Event) (events : List Event) (bytes : List ℕ) → ArePacketsOf (event ∷ events) bytes → Found SpellsEvent bytes event (flat_map canonical events)
+abbrev first_found : (event : Event) (events : List Event) (bytes : List ℕ) → ArePacketsOf (event ∷ events) bytes → SpellsFront SpellsEvent bytes event (flat_map canonical events)
 first_found event events bytes are = record { front = canonical event; parts = are.packets; spelled = canonical_spells event (All-head IsEvent event events are.are_events) (All-head Fits event events are.fit) }
 
 -- behind it stand those of the others
@@ -87,13 +87,13 @@ others_are event events bytes size are is = record {
 no_event : (bytes : List ℕ) → 0 < length bytes → ArePacketsOf [] bytes → ⊥
 no_event bytes some are = omega (arith, some, ap length are.packets)
 
-pub packet_stands : (bytes : List ℕ) → 0 < length bytes → ArePackets bytes → (event : Event) × (behind : List ℕ) × Found SpellsEvent bytes event behind
+pub packet_stands : (bytes : List ℕ) → 0 < length bytes → ArePackets bytes → (event : Event) × (behind : List ℕ) × SpellsFront SpellsEvent bytes event behind
 packet_stands bytes some ([], are) = absurd (no_event bytes some are)
 packet_stands bytes some (event ∷ events, are) = (event, flat_map canonical events, first_found event events bytes are)
 
 -- the size of the packet at the front
 abbrev IsFrontSize : (bytes : List ℕ) (size : ℕ) → Type 0
-IsFrontSize bytes size = (event : Event) (behind : List ℕ) → (found : Found SpellsEvent bytes event behind) → size ≡ length found.front
+IsFrontSize bytes size = (event : Event) (behind : List ℕ) → (found : SpellsFront SpellsEvent bytes event behind) → size ≡ length found.front
 
 pub packets_left : (left : List ℕ) (size : ℕ) → 0 < length left → IsFrontSize left size → ArePackets left → ArePackets (drop size left)
 packets_left left size some is ([], are) = absurd (no_event left some are)
@@ -108,7 +108,7 @@ folded_none bytes old seen events are folded = ([], events, refl, are, rw (appen
 
 -- one packet more was folded
 pub folded_more : (bytes left : List ℕ) (old now new : Outcomes) (size : ℕ) → 0 < length left → IsFrontSize left size
-    → ((seen : List Event) (event : Event) (behind : List ℕ) → Found SpellsEvent left event behind → HasFolded now seen → HasFolded new (seen ++ event ∷ []))
+    → ((seen : List Event) (event : Event) (behind : List ℕ) → SpellsFront SpellsEvent left event behind → HasFolded now seen → HasFolded new (seen ++ event ∷ []))
     → IsFoldedTo bytes left old now → IsFoldedTo bytes (drop size left) old new
 folded_more bytes left old now new size some is step so_far seen events are folded = more (so_far seen events are folded)
   where

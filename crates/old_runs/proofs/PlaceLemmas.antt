@@ -13,30 +13,31 @@ use Rattle.packet_codec.specs.declared.event.Event.{Event}
 use Rattle.packet_codec.specs.declared.status.Status.{Status}
 use Rattle.packet_codec.specs.declared.status.Status.TheVariants as status
 use Rattle.v1_bridge.specs.declared.part.Part.{Part}
-use Rattle.v1_bridge.specs.declared.stage.Place.TheVariants as chunk
-use Rattle.v1_bridge.specs.declared.stage.Stage.{Stage}
-use Rattle.v1_bridge.specs.declared.stage.Stage.TheVariants as stage
-use Rattle.v1_bridge.specs.declared.stage.Details.{Details}
-use Rattle.v1_bridge.specs.declared.stage.OpenTest.{OpenTest}
-use Rattle.v1_bridge.specs.Lines.{Line, test, outcome, time, tagging, progress, other, Ended, ended_as, begins, content, time_with, test_of, outcome_of, other_of, outcome_or, test_or, line_of, is_progress}
+use Rattle.v1_bridge.specs.declared.details_stage.Place.TheVariants as chunk
+use Rattle.v1_bridge.specs.declared.details_stage.Stage.{Stage}
+use Rattle.v1_bridge.specs.declared.details_stage.Stage.TheVariants as stage
+use Rattle.v1_bridge.specs.declared.details_stage.Details.{Details}
+use Rattle.v1_bridge.specs.declared.details_stage.OpenTest.{OpenTest}
+use Rattle.v1_bridge.specs.Lines.{V1Line, test, outcome, time, tagging, progress, other, EndedLine, ended_as, content, time_with, test_begun, outcome_of, other_of, outcome_or, test_or, line_of, is_progress}
 use Rattle.v1_bridge.specs.TagWords.{is_name, retagged}
 use Rattle.v1_bridge.specs.Sizes.{is_size, may_be_size, size_with}
-use Rattle.v1_bridge.specs.Events.{full_pieces, line_event, piece_event, part_with, pieces_given, rest_events}
-use Rattle.v1_bridge.specs.Stages.{Told, foreign_run, sized, size_told, type_of, typed_with, name_piece, lines_run, extent_of, stage_piece, stage_line, ends_details}
-use Rattle.v1_bridge.specs.Reading.{State, Step, line, piece, with_test, with_time, detail_line, is_id_and, end_test, begin_test, change_tags, change_own_tags, outside, within, line_step, line_within, piece_within, piece_step, step}
-use Rattle.old_runs.specs.declared.place.Place.{Place}
-use Rattle.old_runs.specs.declared.place.Place.TheVariants.{Outside, Lines, Parts}
+use Rattle.v1_bridge.specs.Events.{full_pieces, line_event, piece_event, part_with_bytes, pieces_given, rest_events}
+use Rattle.v1_bridge.specs.Stages.{StageStep, foreign_run, sized, size_told, type_of, typed_with, name_piece, lines_run, extent_of, stage_piece, stage_line, ends_details}
+use Rattle.v1_bridge.specs.Reading.{State, LineStep, line, piece, with_test, with_time, detail_line, is_id_and, end_test, begin_test, change_tags, change_own_tags, step_outside, step_inside, line_step, line_within, piece_within, piece_step, step}
+use Rattle.sub_number.specs.Lines.{begins}
+use Rattle.old_runs.specs.declared.line_place.Place.{Place}
+use Rattle.old_runs.specs.declared.line_place.Place.TheVariants.{Outside, Lines, Parts}
 use Rattle.old_runs.specs.Places.{place_at, place_in, place_of, is_unset, has_status, place_begun, place_behind, HasOutcome, HasOutcomeIn, HasOutcomes}
 
 -- behind the step the next line stands at this place, and the details have an outcome
-pub record StepLands (r : Step) (place : Place) : Type 0 where
+pub record StepLands (r : LineStep) (place : Place) : Type 0 where
   pub is : place_of r.state.open_test ≡ place
   pub outcomes : HasOutcomes r.state
 
 -- ---- what a line tells
 
 -- the line says none of these things where it is an outcome line
-abbrev IsSilent : Line → Type 0
+abbrev IsSilent : V1Line → Type 0
 IsSilent (test id) = ⊥
 IsSilent (outcome how rest) = ⊥
 IsSilent (time stamp) = Unit {0}
@@ -44,7 +45,7 @@ IsSilent (tagging words) = Unit {0}
 IsSilent progress = Unit {0}
 IsSilent other = ⊥
 
-silent_outcome : (e : Option Ended) (bytes : List ℕ) → outcome_of bytes ≡ e → IsSilent (outcome_or e bytes) → outcome_of bytes ≡ None
+silent_outcome : (e : Option EndedLine) (bytes : List ℕ) → outcome_of bytes ≡ e → IsSilent (outcome_or e bytes) → outcome_of bytes ≡ None
 silent_outcome (Some ended) bytes same is = absurd is
 silent_outcome None bytes same is = same
 
@@ -58,8 +59,8 @@ record EndsAs (bytes : List ℕ) (ended : Status) (rest : List ℕ) : Type 0 whe
   front : List ℕ
   parts : bytes ≡ front ++ rest
 
-abbrev TellsEnd : List ℕ → Option Ended → Type 0
-TellsEnd bytes o = IfSome o (λ (e : Ended). EndsAs bytes e.how e.rest)
+abbrev TellsEnd : List ℕ → Option EndedLine → Type 0
+TellsEnd bytes o = IfSome o (λ (e : EndedLine). EndsAs bytes e.how e.rest)
 
 end_at : (bytes : List ℕ) (how : Status) (n : ℕ) → is_unset how ≡ false → TellsEnd bytes (ended_as how (drop n bytes))
 end_at bytes how n is = record { how = is; front = take n bytes; parts = sym (take-append-drop n bytes) }
@@ -80,7 +81,7 @@ record IsOutcome (bytes : List ℕ) (how : Status) (rest : List ℕ) : Type 0 wh
   some : is_some (outcome_of bytes) ≡ true
   ends : EndsAs bytes how rest
 
-abbrev TellsOutcome : List ℕ → Line → Type 0
+abbrev TellsOutcome : List ℕ → V1Line → Type 0
 TellsOutcome bytes (test id) = Unit {0}
 TellsOutcome bytes (outcome how rest) = IsOutcome bytes how rest
 TellsOutcome bytes (time stamp) = Unit {0}
@@ -99,7 +100,7 @@ other_tells bytes =
     (λ not. cond_both (begins (codes "progress: ") bytes) _ _ (TellsOutcome bytes) (λ is. cond_both (is_progress (drop 10 bytes)) progress other (TellsOutcome bytes) (λ is. tt) (λ not. tt))
     (λ not. tt)))
 
-outcome_tells : (e : Option Ended) (bytes : List ℕ) → outcome_of bytes ≡ e → TellsOutcome bytes (outcome_or e bytes)
+outcome_tells : (e : Option EndedLine) (bytes : List ℕ) → outcome_of bytes ≡ e → TellsOutcome bytes (outcome_or e bytes)
 outcome_tells None bytes same = other_tells bytes
 outcome_tells (Some ended) bytes same = record { some = ap is_some same; ends = subst (TellsEnd bytes) same (tells_end bytes) }
 
@@ -164,39 +165,39 @@ rest_quiet id p = cond_both (length p.held == 0) [] (piece_event id p p.held ∷
 -- ---- details that go on
 
 -- a line of details, or a piece of one, gives no status, and the place stays
-record Stays (place : Place) (told : Told) : Type 0 where
+record PlaceStays (place : Place) (told : StageStep) : Type 0 where
   quiet : AreQuiet told.given
   stays : place_at told.stage ≡ place
 
-sized_stays : (id : List ℕ) (p : Part) (count : ℕ) → Stays Parts (sized id p count)
-sized_stays id p count = cond_both (count == 0) _ _ (Stays Parts) (λ is. record { quiet = rest_quiet id p; stays = refl }) (λ is. record { quiet = refl; stays = refl })
+sized_stays : (id : List ℕ) (p : Part) (count : ℕ) → PlaceStays Parts (sized id p count)
+sized_stays id p count = cond_both (count == 0) _ _ (PlaceStays Parts) (λ is. record { quiet = rest_quiet id p; stays = refl }) (λ is. record { quiet = refl; stays = refl })
 
 -- a line where the size of a chunk should stand
-told_stays : (id : List ℕ) (p : Part) (so_far run : List ℕ) (extent : _) (digits : List ℕ) → AreQuiet (foreign_run extent so_far run) → Stays Parts (size_told id p so_far run extent (size_with digits))
+told_stays : (id : List ℕ) (p : Part) (so_far run : List ℕ) (extent : _) (digits : List ℕ) → AreQuiet (foreign_run extent so_far run) → PlaceStays Parts (size_told id p so_far run extent (size_with digits))
 told_stays id p so_far run extent digits silent =
-    cond_both (is_size digits) _ _ (λ s. Stays Parts (size_told id p so_far run extent s))
+    cond_both (is_size digits) _ _ (λ s. PlaceStays Parts (size_told id p so_far run extent s))
     (λ is. sized_stays id p (digits_value 16 digits))
     (λ is. record { quiet = quiet_both (rest_events id p) (foreign_run extent so_far run) (rest_quiet id p) silent; stays = refl })
 
-size_stays : (id : List ℕ) (how : Status) (p : Part) (so_far run : List ℕ) → Stays Parts (stage_line id how (stage.Bytes p (chunk.Size so_far)) run)
+size_stays : (id : List ℕ) (how : Status) (p : Part) (so_far run : List ℕ) → PlaceStays Parts (stage_line id how (stage.Bytes p (chunk.Size so_far)) run)
 size_stays id how p so_far run = search (told_stays)
 
-chunk_stays : (id : List ℕ) (how : Status) (p : Part) (left : ℕ) (run : List ℕ) → Stays Parts (stage_line id how (stage.Bytes p (chunk.Chunk left)) run)
+chunk_stays : (id : List ℕ) (how : Status) (p : Part) (left : ℕ) (run : List ℕ) → PlaceStays Parts (stage_line id how (stage.Bytes p (chunk.Chunk left)) run)
 chunk_stays id how p left run =
-    let p' = part_with p (take left run) in
+    let p' = part_with_bytes p (take left run) in
     let rest = size_stays id how p' [] (drop left run) in
-    cond_both (nat_le (length run) left) _ _ (Stays Parts)
+    cond_both (nat_le (length run) left) _ _ (PlaceStays Parts)
     (λ is. record { quiet = given_quiet id p run; stays = refl })
     (λ is. record { quiet = quiet_both (pieces_given id p (take left run)) (stage_line id how (stage.Bytes p' (chunk.Size [])) (drop left run)).given (given_quiet id p (take left run)) rest.quiet; stays = rest.stays })
 
-typed_stays : (o : Option (List ℕ)) (bytes : List ℕ) → Stays Parts (typed_with o bytes)
+typed_stays : (o : Option (List ℕ)) (bytes : List ℕ) → PlaceStays Parts (typed_with o bytes)
 typed_stays None bytes = record { quiet = refl; stays = refl }
 typed_stays (Some mime) bytes = record { quiet = refl; stays = refl }
 
-lines_stay : (id : List ℕ) (p : Part) (bytes : List ℕ) → Stays Lines (lines_run id p bytes)
+lines_stay : (id : List ℕ) (p : Part) (bytes : List ℕ) → PlaceStays Lines (lines_run id p bytes)
 lines_stay id p bytes = record { quiet = given_quiet id p bytes; stays = refl }
 
-line_stays : (id : List ℕ) (how : Status) (s : Stage) (bytes : List ℕ) → Stays (place_at s) (stage_line id how s bytes)
+line_stays : (id : List ℕ) (how : Status) (s : Stage) (bytes : List ℕ) → PlaceStays (place_at s) (stage_line id how s bytes)
 line_stays id how (stage.Lines p) bytes = lines_stay id p _
 line_stays id how stage.Between bytes = typed_stays (type_of (content bytes)) (content bytes)
 line_stays id how (stage.Typed mime) bytes = record { quiet = refl; stays = refl }
@@ -208,7 +209,7 @@ line_stays id how (stage.Bytes p (chunk.Chunk left)) bytes = chunk_stays id how 
 name_stays : (how : Status) (mime bytes : List ℕ) (last : Bool) → place_at (name_piece how mime bytes last).stage ≡ Parts
 name_stays how mime bytes last = cond_both last _ _ (λ (s : Stage). place_at s ≡ Parts) (λ is. refl) (λ is. refl)
 
-abbrev AreParts : Told → Type 0
+abbrev AreParts : StageStep → Type 0
 AreParts told = place_at told.stage ≡ Parts
 
 size_piece_stays : (id : List ℕ) (how : Status) (p : Part) (so_far run : List ℕ) (last : Bool) → AreParts (stage_piece id how (stage.Bytes p (chunk.Size so_far)) run last)
@@ -219,7 +220,7 @@ size_piece_stays id how p so_far run false = cond_both (may_be_size (so_far ++ r
 
 chunk_piece_stays : (id : List ℕ) (how : Status) (p : Part) (left : ℕ) (run : List ℕ) (last : Bool) → AreParts (stage_piece id how (stage.Bytes p (chunk.Chunk left)) run last)
 chunk_piece_stays id how p left run last =
-    cond_both (nat_le (length run) left) _ _ AreParts (λ is. refl) (λ is. size_piece_stays id how (part_with p (take left run)) [] (drop left run) last)
+    cond_both (nat_le (length run) left) _ _ AreParts (λ is. refl) (λ is. size_piece_stays id how (part_with_bytes p (take left run)) [] (drop left run) last)
 
 piece_stays : (id : List ℕ) (how : Status) (s : Stage) (bytes : List ℕ) (last : Bool) → place_at (stage_piece id how s bytes last).stage ≡ place_at s
 piece_stays id how (stage.Lines p) bytes last = refl
@@ -241,13 +242,13 @@ behind_details (stage.Bytes p pl) bytes given = refl
 abbrev behind_outside : List ℕ → List Event → Place
 behind_outside bytes given = if length given == 0 then place_begun bytes else Outside
 
-abbrev LandsOutside : List ℕ → Step → Type 0
+abbrev LandsOutside : List ℕ → LineStep → Type 0
 LandsOutside bytes r = StepLands r (behind_outside bytes r.given)
 
 module _ (s : State) (known : HasOutcomes s) where
   silent_lands : (bytes : List ℕ) (next : State) → place_of next.open_test ≡ Outside → HasOutcomes next → outcome_of bytes ≡ None → LandsOutside bytes (record { given = []; state = next })
   silent_lands bytes next out outcomes none = record {
-    is = out ∙ sym (ap (λ (o : Option Ended). cond (is_some o) (cond (ends_with nat_eq bytes (codes "[")) Lines Parts) Outside) none);
+    is = out ∙ sym (ap (λ (o : Option EndedLine). cond (is_some o) (cond (ends_with nat_eq bytes (codes "[")) Lines Parts) Outside) none);
     outcomes = outcomes;
   }
 
@@ -265,7 +266,7 @@ module _ (s : State) (known : HasOutcomes s) where
   own_tags_land out t bytes None none = foreign_lands out bytes bytes
   own_tags_land out t bytes (Some names) none = silent_lands bytes (with_test s (Some (record { id = t.id; tags = names; details = None }))) refl tt none
 
-  outside_lands : place_of s.open_test ≡ Outside → (bytes : List ℕ) (l : Line) → (IsSilent l → outcome_of bytes ≡ None) → LandsOutside bytes (outside s bytes l)
+  outside_lands : place_of s.open_test ≡ Outside → (bytes : List ℕ) (l : V1Line) → (IsSilent l → outcome_of bytes ≡ None) → LandsOutside bytes (step_outside s bytes l)
   outside_lands out bytes (test id) none = begin_lands out bytes id
   outside_lands out bytes (outcome how rest) none = foreign_lands out bytes bytes
   outside_lands out bytes (time stamp) none = silent_lands bytes (with_time s stamp) out known (none tt)
@@ -284,7 +285,7 @@ module _ (s : State) (known : HasOutcomes s) where
       (λ not. cond_both (is_id_and (codes " [ multipart") t.id rest) _ _ (LandsOutside bytes) (λ is. record { is = sym (begun_is bytes false told.some (parts_end bytes t.id rest how told.ends is)); outcomes = told.ends.how })
       (λ not. foreign_lands out bytes bytes)))
 
-  within_lands : place_of s.open_test ≡ Outside → (t : OpenTest) (bytes : List ℕ) (l : Line) → (IsSilent l → outcome_of bytes ≡ None) → TellsOutcome bytes l → LandsOutside bytes (within s t bytes l)
+  within_lands : place_of s.open_test ≡ Outside → (t : OpenTest) (bytes : List ℕ) (l : V1Line) → (IsSilent l → outcome_of bytes ≡ None) → TellsOutcome bytes l → LandsOutside bytes (step_inside s t bytes l)
   within_lands out t bytes (test id) none told = foreign_lands out bytes bytes
   within_lands out t bytes (outcome how rest) none told = end_lands out t bytes how rest told
   within_lands out t bytes (time stamp) none told = silent_lands bytes (with_time s stamp) out known (none tt)
@@ -296,7 +297,7 @@ module _ (s : State) (known : HasOutcomes s) where
   detail_lands t d bytes how =
       let told = stage_line t.id d.how d.stage bytes in
       let stays = line_stays t.id d.how d.stage bytes in
-      cond_both (ends_details d.stage bytes) _ _ (λ (r : Step). StepLands r (place_behind (place_at d.stage) bytes r.given))
+      cond_both (ends_details d.stage bytes) _ _ (λ (r : LineStep). StepLands r (place_behind (place_at d.stage) bytes r.given))
       (λ is. record {
         is = sym (behind_details d.stage bytes _ ∙ ap (λ b. cond (not b || false) Outside (place_at d.stage)) how);
         outcomes = tt;
@@ -307,11 +308,11 @@ module _ (s : State) (known : HasOutcomes s) where
       })
 
   line_within_lands : (t : OpenTest) (d : Option Details) (bytes : List ℕ) → place_of s.open_test ≡ place_in d → IfSome d HasOutcome → StepLands (line_within s t d bytes) (place_behind (place_in d) bytes (line_within s t d bytes).given)
-  line_within_lands t None bytes same how = within_lands same t (content bytes) (line_of (content bytes)) (silent_test (test_of (content bytes)) (content bytes)) (test_tells (test_of (content bytes)) (content bytes))
+  line_within_lands t None bytes same how = within_lands same t (content bytes) (line_of (content bytes)) (silent_test (test_begun (content bytes)) (content bytes)) (test_tells (test_begun (content bytes)) (content bytes))
   line_within_lands t (Some d) bytes same how = detail_lands t d bytes how
 
   line_lands : (t : Option OpenTest) (bytes : List ℕ) → place_of s.open_test ≡ place_of t → IfSome t HasOutcomeIn → StepLands (line_step s t bytes) (place_behind (place_of t) bytes (line_step s t bytes).given)
-  line_lands None bytes same how = outside_lands same (content bytes) (line_of (content bytes)) (silent_test (test_of (content bytes)) (content bytes))
+  line_lands None bytes same how = outside_lands same (content bytes) (line_of (content bytes)) (silent_test (test_begun (content bytes)) (content bytes))
   line_lands (Some t) bytes same how = line_within_lands t t.details bytes same how
 
   piece_within_lands : (t : OpenTest) (d : Option Details) (bytes : List ℕ) (last : Bool) → place_of s.open_test ≡ place_in d → IfSome d HasOutcome → StepLands (piece_within s t d bytes last) (place_in d)

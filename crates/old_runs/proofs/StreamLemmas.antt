@@ -22,8 +22,8 @@ use Rattle.stream_reader.proofs.NotesLemmas.{are_full}
 use Rattle.stream_reader.proofs.TurnLemmas.{notes_none, notes_more, begin_more, whole_at_end}
 use Rattle.old_runs.specs.declared.stream.OldStream.{OldStream}
 use Rattle.old_runs.specs.Files.{has_id}
-use Rattle.old_runs.specs.Giving.{Gives}
-use Rattle.old_runs.specs.Streams.{HasFedStream, TakesNotes}
+use Rattle.old_runs.specs.Giving.{AppendsEvents}
+use Rattle.old_runs.specs.Streams.{HasFedStream, HandsOnNotes}
 use Rattle.old_runs.proofs.PacketLemmas.{gives_none, gives_this, gives_then, gives_so}
 
 -- ---- each note has a packet
@@ -68,11 +68,11 @@ or_none : (b : Bool) → (b || false) ≡ b
 or_none true = refl
 or_none false = refl
 
-pub takes_none : (notes : List Note) (stream : OldStream) (old : List ℕ) → stream.told ≡ list_any has_id (events_of notes) → TakesNotes notes stream stream old old
+pub takes_none : (notes : List Note) (stream : OldStream) (old : List ℕ) → stream.told ≡ list_any has_id (events_of notes) → HandsOnNotes notes stream stream old old
 takes_none notes stream old told = record { all = notes; given = notes_none stream.reader notes; told = told; put = gives_none (λ (events : List Event). events_of notes ≡ events) old (events_of notes) refl }
 
-pub takes_more : (notes : List Note) (before now after : OldStream) (old mid new : List ℕ) (next : Note) (told : Bool) → TakesNotes notes before now old mid → GivesNote now.reader next after.reader → after.reader.ended ≡ now.reader.ended
-    → IsEvent (event_of next) → new ≡ mid ++ canonical (event_of next) → told ≡ has_id (event_of next) → after.told ≡ (now.told || told) → TakesNotes notes before after old new
+pub takes_more : (notes : List Note) (before now after : OldStream) (old mid new : List ℕ) (next : Note) (told : Bool) → HandsOnNotes notes before now old mid → GivesNote now.reader next after.reader → after.reader.ended ≡ now.reader.ended
+    → IsEvent (event_of next) → new ≡ mid ++ canonical (event_of next) → told ≡ has_id (event_of next) → after.told ≡ (now.told || told) → HandsOnNotes notes before after old new
 takes_more notes before now after old mid new next told so_far gives same is grown tells both =
     let all : events_of (so_far.all ++ next ∷ []) ≡ events_of so_far.all ++ event_of next ∷ [] = map-append event_of so_far.all (next ∷ []) in
     record {
@@ -87,7 +87,7 @@ takes_more notes before now after old mid new next told so_far gives same is gro
 -- ---- bytes of a stream
 
 pub stream_more : (before mid after : OldStream) (bytes part old new : List ℕ) (given : List Event) → AreBytes part → HasFedStream before bytes given → mid.reader ≡ record { bytes = before.reader.bytes ++ part; ended = false } → mid.told ≡ before.told
-    → ((notes : List Note) → mid.told ≡ list_any has_id (events_of notes) → TakesNotes notes mid after old new) → Gives old new (λ more. HasFedStream after (bytes ++ part) (given ++ more))
+    → ((notes : List Note) → mid.told ≡ list_any has_id (events_of notes) → HandsOnNotes notes mid after old new) → AppendsEvents old new (λ more. HasFedStream after (bytes ++ part) (given ++ more))
 stream_more before mid after bytes part old new given are h held same takes =
     let t = takes h.notes (same ∙ h.told ∙ ap (list_any has_id) h.made) in
     gives_so (λ more. events_of t.all ≡ events_of h.notes ++ more) (λ more. HasFedStream after (bytes ++ part) (given ++ more)) old new t.put (λ more is.
@@ -101,8 +101,8 @@ stream_more before mid after bytes part old new given are h held same takes =
 
 -- at its end
 pub stream_end : (before mid after : OldStream) (bytes old new : List ℕ) (given : List Event) → HasFedStream before bytes given → mid.reader ≡ record { bytes = before.reader.bytes; ended = true } → mid.told ≡ before.told
-    → ((notes : List Note) → mid.told ≡ list_any has_id (events_of notes) → TakesNotes notes mid after old new) → IsSpent after.reader.ended after.reader.bytes
-    → Gives old new (λ more. HasEvents bytes (given ++ more) × (after.told ≡ list_any has_id (given ++ more)))
+    → ((notes : List Note) → mid.told ≡ list_any has_id (events_of notes) → HandsOnNotes notes mid after old new) → IsSpent after.reader.ended after.reader.bytes
+    → AppendsEvents old new (λ more. HasEvents bytes (given ++ more) × (after.told ≡ list_any has_id (given ++ more)))
 stream_end before mid after bytes old new given h held same takes spent =
     let t = takes h.notes (same ∙ h.told ∙ ap (list_any has_id) h.made) in
     let whole = whole_at_end bytes before.reader.bytes h.notes t.all mid.reader after.reader h.begins held t.given spent in
@@ -114,25 +114,25 @@ stream_end before mid after bytes old new given h held same takes spent =
 
 -- what stands in front of what is left of a piece was fed
 abbrev pub IsFedTo : OldStream → OldStream → (piece left old new : List ℕ) → Type 0
-IsFedTo before now piece left old new = (bytes : List ℕ) (given : List Event) → HasFedStream before bytes given → (done : List ℕ) × (piece ≡ done ++ left) × Gives old new (λ more. HasFedStream now (bytes ++ done) (given ++ more))
+IsFedTo before now piece left old new = (bytes : List ℕ) (given : List Event) → HasFedStream before bytes given → (done : List ℕ) × (piece ≡ done ++ left) × AppendsEvents old new (λ more. HasFedStream now (bytes ++ done) (given ++ more))
 
 pub fed_to_none : (stream : OldStream) (piece old : List ℕ) → IsFedTo stream stream piece piece old old
 fed_to_none stream piece old bytes given h = ([], refl, gives_none (λ events. HasFedStream stream (bytes ++ []) events) old given (subst (λ (l : List ℕ). HasFedStream stream l given) (sym (append-nil bytes)) h))
 
 pub fed_to_more : (before now after : OldStream) (piece left part behind old mid new : List ℕ) → left ≡ part ++ behind
-    → ((bytes : List ℕ) (given : List Event) → HasFedStream now bytes given → Gives mid new (λ more. HasFedStream after (bytes ++ part) (given ++ more)))
+    → ((bytes : List ℕ) (given : List Event) → HasFedStream now bytes given → AppendsEvents mid new (λ more. HasFedStream after (bytes ++ part) (given ++ more)))
     → IsFedTo before now piece left old mid → IsFedTo before after piece behind old new
 fed_to_more before now after piece left part behind old mid new parts step so_far bytes given h =
     let was = so_far bytes given h in (
       was.0 ++ part,
       was.1 ∙ ap (λ (l : List ℕ). was.0 ++ l) parts ∙ sym (append_assoc was.0 part behind),
       gives_then (λ events. HasFedStream now (bytes ++ was.0) events) (λ events. HasFedStream after (bytes ++ (was.0 ++ part)) events) old mid new given was.2
-          (λ events fed. subst (λ (l : List ℕ). Gives mid new (λ more. HasFedStream after l (events ++ more))) (append_assoc bytes was.0 part) (step (bytes ++ was.0) events fed)),
+          (λ events fed. subst (λ (l : List ℕ). AppendsEvents mid new (λ more. HasFedStream after l (events ++ more))) (append_assoc bytes was.0 part) (step (bytes ++ was.0) events fed)),
     )
 
-pub fed_to_end : (before now : OldStream) (piece left old new : List ℕ) → length left ≡ 0 → IsFedTo before now piece left old new → (bytes : List ℕ) (given : List Event) → HasFedStream before bytes given → Gives old new (λ more. HasFedStream now (bytes ++ piece) (given ++ more))
+pub fed_to_end : (before now : OldStream) (piece left old new : List ℕ) → length left ≡ 0 → IsFedTo before now piece left old new → (bytes : List ℕ) (given : List Event) → HasFedStream before bytes given → AppendsEvents old new (λ more. HasFedStream now (bytes ++ piece) (given ++ more))
 fed_to_end before now piece [] old new none so_far bytes given h =
     let was = so_far bytes given h in
     let all : piece ≡ was.0 = was.1 ∙ append-nil was.0 in
-    subst (λ (l : List ℕ). Gives old new (λ more. HasFedStream now (bytes ++ l) (given ++ more))) (sym all) was.2
+    subst (λ (l : List ℕ). AppendsEvents old new (λ more. HasFedStream now (bytes ++ l) (given ++ more))) (sym all) was.2
 fed_to_end before now piece (byte ∷ left) old new none so_far bytes given h = absurd (omega (arith, none))

@@ -8,7 +8,7 @@ use Rattle.stream_reader.specs.Notes.{HasEvents}
 use Rattle.outcome_fold.specs.Rows.{rows_of}
 use Rattle.outcome_fold.specs.Answers.{failing_of}
 use Rattle.v1_bridge.specs.Cutting.{lines_of}
-use Rattle.v1_bridge.specs.Reading.{Input, inputs_of, start, state_behind, given_behind, v1_events}
+use Rattle.v1_bridge.specs.Reading.{Input, inputs_of, start, state_behind, events_given_behind, v1_events}
 use Rattle.old_runs.specs.Places.{IsAmongParts}
 
 -- ---- what it says
@@ -48,7 +48,7 @@ pub record HasForeignPart (inputs : List Input) : Type 0 where
   pub rest : List Input
   pub is : inputs ≡ front ++ input ∷ rest
   pub among : IsAmongParts (state_behind start front)
-  pub foreign : list_any lacks_id (given_behind front input) ≡ true
+  pub foreign : list_any lacks_id (events_given_behind front input) ≡ true
 
 -- The parts of an outcome line are not followed by a line `]`: something else stands among them, or the file ends there.
 abbrev pub HasOpenParts : List Input → Type 0

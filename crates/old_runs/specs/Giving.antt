@@ -4,7 +4,7 @@ use Rattle.packet_codec.specs.declared.event.Event.{Event}
 use Rattle.packet_codec.specs.Packets.{ArePacketsOf}
 
 -- the packets of some events were appended, and of these events this is so
-pub record Gives (old new : List ℕ) (P : List Event → Type 0) : Type 0 where
+pub record AppendsEvents (old new : List ℕ) (P : List Event → Type 0) : Type 0 where
   pub more : List Event
   pub packets : List ℕ
   pub are : ArePacketsOf more packets

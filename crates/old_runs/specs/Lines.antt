@@ -1,23 +1,18 @@
 -- Lines of version 1 that are read as their bytes come.
-use Rattle.std.specs.Prelude.{◌≡◌, ◌↔◌, ℕ, ◌*◌, ◌/◌, ◌≤◌, Bool, true, false, ⊤, List, [], ◌∷◌, ◌++◌, map, length, take, drop}
+use Rattle.std.specs.Prelude.{◌≡◌, ◌↔◌, ℕ, ◌*◌, ◌/◌, ◌≤◌, Bool, true, false, List, [], ◌∷◌, ◌++◌, map, length, take, drop}
 use Rattle.std.specs.List.{flat_map, list_any}
 use Rattle.packet_codec.specs.declared.event.Event.{Event}
 use Rattle.v1_bridge.specs.Lines.{without_newline}
-use Rattle.v1_bridge.specs.Events.{longest_line, full_pieces}
+use Rattle.v1_bridge.specs.Events.{longest_v1_line, full_pieces}
 use Rattle.v1_bridge.specs.Cutting.{line_size, lines_behind}
-use Rattle.v1_bridge.specs.Reading.{Input, line, piece, front_piece, inputs_of, start, state_behind, events_so_far}
+use Rattle.v1_bridge.specs.Reading.{Input, piece, front_piece, inputs_of, start, state_behind, events_so_far}
 use Rattle.v1_bridge.specs.Kept.{HasRead, HoldsLittle}
-use Rattle.old_runs.specs.declared.place.Place.{Place}
-use Rattle.old_runs.specs.declared.place.Place.TheVariants.{Outside, Lines, Parts}
-use Rattle.old_runs.specs.declared.heard.Heard.{Heard}
+use Rattle.old_runs.specs.declared.line_place.Place.{Place}
+use Rattle.old_runs.specs.declared.line_place.Place.TheVariants.{Outside, Lines, Parts}
+use Rattle.old_runs.specs.declared.heard_lines.Heard.{Heard}
 use Rattle.old_runs.specs.declared.lines.OldLines.{OldLines}
 use Rattle.old_runs.specs.Places.{place_of, HasOutcomes}
 use Rattle.old_runs.specs.Files.{has_id, HasForeignPart, inputs_in}
-
--- no newline is among the bytes
-abbrev pub IsPlain : List ℕ → Type 0
-IsPlain [] = ⊤
-IsPlain (byte ∷ bytes) = (byte ≡ 10 → ⊥) × IsPlain bytes
 
 -- ---- what bytes give behind some of their line
 
@@ -31,25 +26,20 @@ line_behind bytes = drop (line_size bytes) bytes
 
 -- What is left of a line of which pieces were given: held bytes, and then the rest of the line, with its newline where it
 -- has one.
-abbrev pub pieces_left : (held rest : List ℕ) → List Input
-pieces_left held rest =
+abbrev pub inputs_left : (held rest : List ℕ) → List Input
+inputs_left held rest =
     let says = held ++ without_newline rest in
-    map front_piece (full_pieces says) ++ piece (drop (longest_line * (length says / longest_line)) (held ++ rest)) true ∷ []
+    map front_piece (full_pieces says) ++ piece (drop (longest_v1_line * (length says / longest_v1_line)) (held ++ rest)) true ∷ []
 
 -- What these bytes give behind others of their line, which are held, where pieces of that line were given, or none.
 abbrev pub inputs_behind : (long : Bool) → (held bytes : List ℕ) → List Input
 inputs_behind false held bytes = flat_map inputs_of (lines_behind held bytes)
-inputs_behind true held bytes = pieces_left held (line_front bytes) ++ inputs_in (line_behind bytes)
-
--- what is left of a line, where pieces of it were given or none
-abbrev pub last_input : Bool → List ℕ → Input
-last_input false bytes = line bytes
-last_input true bytes = piece bytes true
+inputs_behind true held bytes = inputs_left held (line_front bytes) ++ inputs_in (line_behind bytes)
 
 -- how much is held at most of a line whose end is not there yet
-abbrev pub most_held : Bool → ℕ
-most_held false = longest_line
-most_held true = 65535
+abbrev pub most_held_of_line : Bool → ℕ
+most_held_of_line false = longest_v1_line
+most_held_of_line true = 65535
 
 -- ---- the reader
 
@@ -80,5 +70,5 @@ HasFedLines lines bytes given = HasCut lines bytes [] given
 
 -- what is held is short
 pub record AreReadyLines (lines : OldLines) : Type 0 where
-  pub held : length lines.held.items ≤ most_held lines.long
+  pub held : length lines.held.items ≤ most_held_of_line lines.long
   pub little : HoldsLittle lines.heard.reader

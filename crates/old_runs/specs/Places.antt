@@ -4,14 +4,14 @@ use Rattle.std.specs.List.{ends_with, list_any}
 use Rattle.packet_codec.specs.declared.event.Event.{Event}
 use Rattle.packet_codec.specs.declared.status.Status.{Status}
 use Rattle.packet_codec.specs.declared.status.Status.TheVariants as status
-use Rattle.v1_bridge.specs.declared.stage.Stage.{Stage}
-use Rattle.v1_bridge.specs.declared.stage.Stage.TheVariants as stage
-use Rattle.v1_bridge.specs.declared.stage.Details.{Details}
-use Rattle.v1_bridge.specs.declared.stage.OpenTest.{OpenTest}
+use Rattle.v1_bridge.specs.declared.details_stage.Stage.{Stage}
+use Rattle.v1_bridge.specs.declared.details_stage.Stage.TheVariants as stage
+use Rattle.v1_bridge.specs.declared.details_stage.Details.{Details}
+use Rattle.v1_bridge.specs.declared.details_stage.OpenTest.{OpenTest}
 use Rattle.v1_bridge.specs.Lines.{content, outcome_of}
 use Rattle.v1_bridge.specs.Reading.{State}
-use Rattle.old_runs.specs.declared.place.Place.{Place}
-use Rattle.old_runs.specs.declared.place.Place.TheVariants.{Outside, Lines, Parts}
+use Rattle.old_runs.specs.declared.line_place.Place.{Place}
+use Rattle.old_runs.specs.declared.line_place.Place.TheVariants.{Outside, Lines, Parts}
 
 -- ---- what is known behind some lines tells the place
 
@@ -59,8 +59,8 @@ abbrev pub place_begun : List ℕ → Place
 place_begun bytes = if is_some (outcome_of bytes) then (if ends_with nat_eq bytes (codes "[") then Lines else Parts) else Outside
 
 -- outside of details
-abbrev pub outside : Place
-outside = Outside
+abbrev pub outside_details : Place
+outside_details = Outside
 
 -- Where the next line stands behind a line, or a piece of one, that stood here and gave these events. Details go on
 -- until an event with a status comes, which ends their test.

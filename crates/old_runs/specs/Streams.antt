@@ -8,7 +8,7 @@ use Rattle.stream_reader.specs.Room.{most_held}
 use Rattle.stream_reader.specs.Stream.{BeginsWithNotes, GivesNotes}
 use Rattle.old_runs.specs.declared.stream.OldStream.{OldStream}
 use Rattle.old_runs.specs.Files.{has_id}
-use Rattle.old_runs.specs.Giving.{Gives}
+use Rattle.old_runs.specs.Giving.{AppendsEvents}
 
 -- these bytes were fed, and these events were handed on
 pub record HasFedStream (stream : OldStream) (bytes : List ℕ) (given : List Event) : Type 0 where
@@ -23,8 +23,8 @@ pub record AreGoingOn (stream : OldStream) : Type 0 where
   pub held : length stream.reader.bytes ≤ most_held
 
 -- the next notes were taken, and their events were handed on
-pub record TakesNotes (notes : List Note) (before after : OldStream) (old new : List ℕ) : Type 0 where
+pub record HandsOnNotes (notes : List Note) (before after : OldStream) (old new : List ℕ) : Type 0 where
   pub all : List Note
   pub given : GivesNotes before.reader notes after.reader all
   pub told : after.told ≡ list_any has_id (events_of all)
-  pub put : Gives old new (λ more. events_of all ≡ events_of notes ++ more)
+  pub put : AppendsEvents old new (λ more. events_of all ≡ events_of notes ++ more)

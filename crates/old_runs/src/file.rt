@@ -3,10 +3,10 @@
 ghost use Rattle.std.specs.Prelude.{◌≡◌, ◌↔◌, ◌++◌, ◌||◌, ◌&&◌, not, [], ◌∷◌, ℕ, List, Bool, true, IsTrue, IfOk, OnOk, OnErr};
 ghost use Rattle.packet_codec.specs.declared.event.Event.{Event};
 ghost use Rattle.old_runs.specs.Files.{IsOldFile, IsDamaged};
-ghost use Rattle.old_runs.specs.Giving.{Gives};
-ghost use Rattle.old_runs.specs.Fed.{IsReady, HasFedKind, HasFed, HasBegun, IsFed};
+ghost use Rattle.old_runs.specs.Giving.{AppendsEvents};
+ghost use Rattle.old_runs.specs.Fed.{CanBeFed, HasFedKind, HasFed, HasBegun, IsFed};
 
-use crate::heard::Verdict;
+use crate::heard_lines::Verdict;
 use crate::lines::OldLines;
 use crate::stream::OldStream;
 use packet_codec::{SIGNATURE, are_bytes};
@@ -25,7 +25,7 @@ pub(crate) enum Kind {
 impl Kind {
     // The file is a stream.
     fn begin_stream(&mut self, alloc: Global) -> Result<(), NoMemory>
-        ensures ready { OnOk result (IsReady self.new) }
+        ensures ready { OnOk result (CanBeFed self.new) }
         ensures fed { OnOk result (HasFedKind true self.new [] []) }
         ensures err { OnErr result (self.new ≡ self.old) }
     {
@@ -36,9 +36,9 @@ impl Kind {
 
     // Takes the next bytes, and appends the packets of what they decide.
     fn feed(&mut self, piece: &[u8], packets: &mut Vec<u8>) -> Result<(), NoMemory>
-        requires ready { IsReady self.old }
-        ensures ready { OnOk result (IsReady self.new) }
-        ensures fed { (stream : Bool) (bytes : List ℕ) (given : List Event) → HasFedKind stream self.old bytes given → OnOk result (Gives packets.old.items packets.new.items (λ more. HasFedKind stream self.new (bytes ++ piece.now) (given ++ more))) }
+        requires ready { CanBeFed self.old }
+        ensures ready { OnOk result (CanBeFed self.new) }
+        ensures fed { (stream : Bool) (bytes : List ℕ) (given : List Event) → HasFedKind stream self.old bytes given → OnOk result (AppendsEvents packets.old.items packets.new.items (λ more. HasFedKind stream self.new (bytes ++ piece.now) (given ++ more))) }
     {
         match self {
             Kind::Lines(lines) => {
@@ -82,8 +82,8 @@ impl OldFile {
 
     // The file begins with this byte, where nothing of it was read.
     fn begin(&mut self, first: u8) -> Result<(), NoMemory>
-        requires ready { IsReady self.old.kind }
-        ensures ready { OnOk result (IsReady self.new.kind) }
+        requires ready { CanBeFed self.old.kind }
+        ensures ready { OnOk result (CanBeFed self.new.kind) }
         ensures begun { (bytes : List ℕ) (given : List Event) → HasFed self.old bytes given → OnOk result (HasBegun self.new bytes given first) }
     {
         if self.begun {
@@ -102,7 +102,7 @@ impl OldFile {
     pub fn feed(&mut self, piece: &[u8], packets: &mut Vec<u8>) -> Result<(), NoMemory>
         requires going_on { IsFed self.old }
         ensures going_on { OnOk result (IsFed self.new) }
-        ensures fed { (bytes : List ℕ) (given : List Event) → HasFed self.old bytes given → OnOk result (Gives packets.old.items packets.new.items (λ more. HasFed self.new (bytes ++ piece.now) (given ++ more))) }
+        ensures fed { (bytes : List ℕ) (given : List Event) → HasFed self.old bytes given → OnOk result (AppendsEvents packets.old.items packets.new.items (λ more. HasFed self.new (bytes ++ piece.now) (given ++ more))) }
     {
         if piece.is_empty() {
             return Ok(());
@@ -116,7 +116,7 @@ impl OldFile {
     /// Ends the file, and appends the packets of the events that the end decides. Answers whether the file is damaged.
     pub fn close(self, packets: &mut Vec<u8>) -> Result<bool, NoMemory>
         requires going_on { IsFed self }
-        ensures events { (bytes : List ℕ) (given : List Event) → HasFed self bytes given → OnOk result (Gives packets.old.items packets.new.items (λ more. IsOldFile bytes (given ++ more))) }
+        ensures events { (bytes : List ℕ) (given : List Event) → HasFed self bytes given → OnOk result (AppendsEvents packets.old.items packets.new.items (λ more. IsOldFile bytes (given ++ more))) }
         ensures damaged { (bytes : List ℕ) (given : List Event) → HasFed self bytes given → IfOk result (λ damaged. IsTrue damaged ↔ IsDamaged bytes) }
     {
         let OldFile {

@@ -4,22 +4,22 @@
 //! is read piece by piece, and each event is handed on as its packet in shortest spelling, without a lane.
 //!
 //! - `file`: a file of either kind
-//! - `failing`: the tests that fail in a file
-//! - `lines`, `heard`, `place`: lines of version 1, what they give, and where they stand
+//! - `failing_tests`: the tests that fail in a file
+//! - `lines`, `heard_lines`, `line_place`: lines of version 1, what they give, and where they stand
 //! - `stream`: a stream of packets
 //! - `packets`: events as packets
 //! - `laws`: what holds of all files
 #![tactic(auto)]
 
-mod failing;
+mod failing_tests;
 mod file;
-mod heard;
+mod heard_lines;
 mod laws;
+mod line_place;
 mod lines;
 mod packets;
-mod place;
 mod stream;
 
-pub use failing::OldFailing;
+pub use failing_tests::OldFailing;
 pub use file::OldFile;
 pub use laws::old_files;

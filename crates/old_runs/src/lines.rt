@@ -3,16 +3,16 @@
 ghost use Rattle.std.specs.Prelude.{◌≡◌, ◌↔◌, ◌+◌, ◌<◌, ◌≤◌, ◌++◌, ◌∷◌, [], ℕ, List, length, true, false, IsTrue, IfOk, OnOk};
 ghost use Rattle.std.specs.List.{list_any};
 ghost use Rattle.packet_codec.specs.declared.event.Event.{Event};
-ghost use Rattle.v1_bridge.specs.Lines.{without_newline};
+ghost use Rattle.v1_bridge.specs.Lines.{without_newline, HasNoNewline};
 ghost use Rattle.v1_bridge.specs.Cutting.{lines_of};
-ghost use Rattle.v1_bridge.specs.Events.{longest_line};
-ghost use Rattle.v1_bridge.specs.Reading.{Input, front_piece, v1_events};
+ghost use Rattle.v1_bridge.specs.Events.{longest_v1_line};
+ghost use Rattle.v1_bridge.specs.Reading.{Input, front_piece, v1_events, last_input};
 ghost use Rattle.v1_bridge.specs.Kept.{HoldsLittle};
 ghost use Rattle.old_runs.specs.Files.{has_id, HasOpenParts, inputs_in};
-ghost use Rattle.old_runs.specs.Giving.{Gives};
-ghost use Rattle.old_runs.specs.Lines.{IsPlain, HasHeardLines, HasCut, HasFedLines, AreReadyLines, last_input, most_held};
+ghost use Rattle.old_runs.specs.Giving.{AppendsEvents};
+ghost use Rattle.old_runs.specs.Lines.{HasHeardLines, HasCut, HasFedLines, AreReadyLines, most_held_of_line};
 
-use crate::heard::{Heard, Verdict};
+use crate::heard_lines::{Heard, Verdict};
 use memchr::memchr;
 use std::alloc::Global;
 use sub_number::NoMemory;
@@ -45,8 +45,8 @@ impl OldLines {
 
     // How many bytes more may be held of the line.
     fn room(&self) -> usize
-        requires { length self.now.held.items ≤ most_held self.now.long }
-        ensures { result + length self.now.held.items ≡ most_held self.now.long }
+        requires { length self.now.held.items ≤ most_held_of_line self.now.long }
+        ensures { result + length self.now.held.items ≡ most_held_of_line self.now.long }
     {
         if self.long {
             LONGEST_LINE - 1 - self.held.len()
@@ -57,11 +57,11 @@ impl OldLines {
 
     // Bytes that fill up a piece of a line that is too long.
     fn fill(&mut self, bytes: &[u8], packets: &mut Vec<u8>) -> Result<(), NoMemory>
-        requires full { length bytes.now + length self.old.held.items ≡ longest_line }
+        requires full { length bytes.now + length self.old.held.items ≡ longest_v1_line }
         requires little { HoldsLittle self.old.heard.reader }
         ensures held { OnOk result (self.new.held.items ≡ []) }
         ensures long { OnOk result (self.new.long ≡ true) }
-        ensures heard { (inputs : List Input) (given : List Event) → HasHeardLines self.old.heard inputs given → OnOk result (Gives packets.old.items packets.new.items (λ more. HasHeardLines self.new.heard (inputs ++ front_piece (self.old.held.items ++ bytes.now) ∷ []) (given ++ more))) }
+        ensures heard { (inputs : List Input) (given : List Event) → HasHeardLines self.old.heard inputs given → OnOk result (AppendsEvents packets.old.items packets.new.items (λ more. HasHeardLines self.new.heard (inputs ++ front_piece (self.old.held.items ++ bytes.now) ∷ []) (given ++ more))) }
         ensures little { OnOk result (HoldsLittle self.new.heard.reader) }
     {
         self.held.extend_from_slice(bytes)?;
@@ -73,10 +73,10 @@ impl OldLines {
 
     // Adds bytes of the line.
     fn add(&mut self, bytes: &[u8], packets: &mut Vec<u8>) -> Result<(), NoMemory>
-        requires plain { IsPlain bytes.now }
+        requires plain { HasNoNewline bytes.now }
         requires ready { AreReadyLines self.old }
         ensures ready { OnOk result (AreReadyLines self.new) }
-        ensures cut { (all left : List ℕ) (given : List Event) → HasCut self.old all (bytes.now ++ left) given → OnOk result (Gives packets.old.items packets.new.items (λ more. HasCut self.new all left (given ++ more))) }
+        ensures cut { (all left : List ℕ) (given : List Event) → HasCut self.old all (bytes.now ++ left) given → OnOk result (AppendsEvents packets.old.items packets.new.items (λ more. HasCut self.new all left (given ++ more))) }
     {
         let mut rest = bytes;
         while rest.len() > self.room() {
@@ -90,9 +90,9 @@ impl OldLines {
 
     // Hears what is left of the line.
     fn take_rest(&mut self, packets: &mut Vec<u8>) -> Result<(), NoMemory>
-        requires short { length (without_newline self.old.held.items) ≤ longest_line }
+        requires short { length (without_newline self.old.held.items) ≤ longest_v1_line }
         requires little { HoldsLittle self.old.heard.reader }
-        ensures heard { (inputs : List Input) (given : List Event) → HasHeardLines self.old.heard inputs given → OnOk result (Gives packets.old.items packets.new.items (λ more. HasHeardLines self.new.heard (inputs ++ last_input self.old.long self.old.held.items ∷ []) (given ++ more))) }
+        ensures heard { (inputs : List Input) (given : List Event) → HasHeardLines self.old.heard inputs given → OnOk result (AppendsEvents packets.old.items packets.new.items (λ more. HasHeardLines self.new.heard (inputs ++ last_input self.old.long self.old.held.items ∷ []) (given ++ more))) }
         ensures little { OnOk result (HoldsLittle self.new.heard.reader) }
     {
         if self.long {
@@ -107,7 +107,7 @@ impl OldLines {
     fn end_line(&mut self, packets: &mut Vec<u8>) -> Result<(), NoMemory>
         requires ready { AreReadyLines self.old }
         ensures ready { OnOk result (AreReadyLines self.new) }
-        ensures cut { (all left : List ℕ) (given : List Event) → HasCut self.old all (10 ∷ left) given → OnOk result (Gives packets.old.items packets.new.items (λ more. HasCut self.new all left (given ++ more))) }
+        ensures cut { (all left : List ℕ) (given : List Event) → HasCut self.old all (10 ∷ left) given → OnOk result (AppendsEvents packets.old.items packets.new.items (λ more. HasCut self.new all left (given ++ more))) }
     {
         self.held.push(b'\n')?;
         self.take_rest(packets)?;
@@ -120,7 +120,7 @@ impl OldLines {
     pub(crate) fn feed(&mut self, piece: &[u8], packets: &mut Vec<u8>) -> Result<(), NoMemory>
         requires ready { AreReadyLines self.old }
         ensures ready { OnOk result (AreReadyLines self.new) }
-        ensures fed { (bytes : List ℕ) (given : List Event) → HasFedLines self.old bytes given → OnOk result (Gives packets.old.items packets.new.items (λ more. HasFedLines self.new (bytes ++ piece.now) (given ++ more))) }
+        ensures fed { (bytes : List ℕ) (given : List Event) → HasFedLines self.old bytes given → OnOk result (AppendsEvents packets.old.items packets.new.items (λ more. HasFedLines self.new (bytes ++ piece.now) (given ++ more))) }
     {
         let mut left = piece;
         while let Some(count) = memchr(b'\n', left) {
@@ -142,7 +142,7 @@ impl OldLines {
     // What follows the last newline is a line where it is not empty.
     fn end_last(&mut self, packets: &mut Vec<u8>) -> Result<(), NoMemory>
         requires ready { AreReadyLines self.old }
-        ensures heard { (bytes : List ℕ) (given : List Event) → HasFedLines self.old bytes given → OnOk result (Gives packets.old.items packets.new.items (λ more. HasHeardLines self.new.heard (inputs_in bytes) (given ++ more))) }
+        ensures heard { (bytes : List ℕ) (given : List Event) → HasFedLines self.old bytes given → OnOk result (AppendsEvents packets.old.items packets.new.items (λ more. HasHeardLines self.new.heard (inputs_in bytes) (given ++ more))) }
         ensures little { OnOk result (HoldsLittle self.new.heard.reader) }
     {
         if self.is_new() {
@@ -155,7 +155,7 @@ impl OldLines {
     /// Ends the lines, and appends the packets of what the end decides.
     pub(crate) fn close(self, packets: &mut Vec<u8>) -> Result<Verdict, NoMemory>
         requires ready { AreReadyLines self }
-        ensures events { (bytes : List ℕ) (given : List Event) → HasFedLines self bytes given → IfOk result (λ verdict. Gives packets.old.items packets.new.items (λ more. (given ++ more ≡ v1_events (lines_of bytes)) × (verdict.told ≡ list_any has_id (given ++ more)))) }
+        ensures events { (bytes : List ℕ) (given : List Event) → HasFedLines self bytes given → IfOk result (λ verdict. AppendsEvents packets.old.items packets.new.items (λ more. (given ++ more ≡ v1_events (lines_of bytes)) × (verdict.told ≡ list_any has_id (given ++ more)))) }
         ensures open_parts { (bytes : List ℕ) (given : List Event) → HasFedLines self bytes given → IfOk result (λ verdict. (verdict.open_parts ≡ true) ↔ HasOpenParts (inputs_in bytes)) }
     {
         let mut lines = self;

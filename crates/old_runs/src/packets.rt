@@ -32,14 +32,14 @@ pub(crate) fn put_events(events: &[Event], packets: &mut Vec<u8>) -> Result<(), 
 }
 
 /// Whether one of the events is one of a test.
-pub(crate) fn have_id(events: &[Event]) -> bool
+pub(crate) fn any_has_id(events: &[Event]) -> bool
     ensures { result ≡ list_any spec.has_id events.now }
 {
     events.iter().any(|event| event.id.is_some())
 }
 
 /// Whether one of the events is none of a test.
-pub(crate) fn lack_id(events: &[Event]) -> bool
+pub(crate) fn any_lacks_id(events: &[Event]) -> bool
     ensures { result ≡ list_any spec.lacks_id events.now }
 {
     events.iter().any(|event| event.id.is_none())

@@ -9,8 +9,8 @@ ghost use Rattle.stream_reader.specs.Notes.{event_of, events_of, HasEvents};
 ghost use Rattle.stream_reader.specs.Room.{most_held};
 ghost use Rattle.stream_reader.specs.Stream.{IsSpent};
 ghost use Rattle.old_runs.specs.Files.{has_id};
-ghost use Rattle.old_runs.specs.Giving.{Gives};
-ghost use Rattle.old_runs.specs.Streams.{HasFedStream, AreGoingOn, TakesNotes};
+ghost use Rattle.old_runs.specs.Giving.{AppendsEvents};
+ghost use Rattle.old_runs.specs.Streams.{HasFedStream, AreGoingOn, HandsOnNotes};
 
 use crate::packets::put_event;
 use packet_codec::are_bytes;
@@ -46,7 +46,7 @@ impl OldStream {
 
     // Appends the packets of all notes that can be told of the bytes held.
     fn take_notes(&mut self, packets: &mut Vec<u8>) -> Result<(), NoMemory>
-        ensures taken { (notes : List ANote) → self.old.told ≡ list_any has_id (events_of notes) → OnOk result (TakesNotes notes self.old self.new packets.old.items packets.new.items) }
+        ensures taken { (notes : List ANote) → self.old.told ≡ list_any has_id (events_of notes) → OnOk result (HandsOnNotes notes self.old self.new packets.old.items packets.new.items) }
         ensures spent { OnOk result (IsSpent self.new.reader.ended self.new.reader.bytes) }
         ensures ended { self.new.reader.ended ≡ self.old.reader.ended }
     {
@@ -70,7 +70,7 @@ impl OldStream {
         requires going_on { AreGoingOn self.old }
         requires short { length part.now ≤ 65536 }
         ensures going_on { OnOk result (AreGoingOn self.new) }
-        ensures fed { (bytes : List ℕ) (given : List AnEvent) → HasFedStream self.old bytes given → OnOk result (Gives packets.old.items packets.new.items (λ more. HasFedStream self.new (bytes ++ part.now) (given ++ more))) }
+        ensures fed { (bytes : List ℕ) (given : List AnEvent) → HasFedStream self.old bytes given → OnOk result (AppendsEvents packets.old.items packets.new.items (λ more. HasFedStream self.new (bytes ++ part.now) (given ++ more))) }
     {
         are_bytes(part);
         self.reader.feed(part);
@@ -82,7 +82,7 @@ impl OldStream {
     pub(crate) fn feed(&mut self, piece: &[u8], packets: &mut Vec<u8>) -> Result<(), NoMemory>
         requires going_on { AreGoingOn self.old }
         ensures going_on { OnOk result (AreGoingOn self.new) }
-        ensures fed { (bytes : List ℕ) (given : List AnEvent) → HasFedStream self.old bytes given → OnOk result (Gives packets.old.items packets.new.items (λ more. HasFedStream self.new (bytes ++ piece.now) (given ++ more))) }
+        ensures fed { (bytes : List ℕ) (given : List AnEvent) → HasFedStream self.old bytes given → OnOk result (AppendsEvents packets.old.items packets.new.items (λ more. HasFedStream self.new (bytes ++ piece.now) (given ++ more))) }
     {
         let mut left = piece;
         while !left.is_empty() {
@@ -95,7 +95,7 @@ impl OldStream {
 
     /// Ends the stream, and appends the packets of what the end decides. Answers whether one of the events is one of a test.
     pub(crate) fn close(self, packets: &mut Vec<u8>) -> Result<bool, NoMemory>
-        ensures { (bytes : List ℕ) (given : List AnEvent) → HasFedStream self bytes given → IfOk result (λ told. Gives packets.old.items packets.new.items (λ more. HasEvents bytes (given ++ more) × (told ≡ list_any has_id (given ++ more)))) }
+        ensures { (bytes : List ℕ) (given : List AnEvent) → HasFedStream self bytes given → IfOk result (λ told. AppendsEvents packets.old.items packets.new.items (λ more. HasEvents bytes (given ++ more) × (told ≡ list_any has_id (given ++ more)))) }
     {
         let mut stream = self;
         stream.reader.finish();

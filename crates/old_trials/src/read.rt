@@ -1,7 +1,7 @@
 //! Files that are read in pieces of one size.
 
 ghost use Rattle.std.specs.Prelude.{IfSome};
-ghost use Rattle.old_runs.specs.Fed.{IsFed, IsHeard};
+ghost use Rattle.old_runs.specs.Fed.{IsFed, HasHeardSome};
 
 use old_runs::{OldFailing, OldFile};
 use std::alloc::Global;
@@ -19,8 +19,8 @@ fn feed_all(file: &mut OldFile, bytes: &[u8], size: usize, packets: &mut Vec<u8>
 }
 
 fn hear_all(failing: &mut OldFailing, bytes: &[u8], size: usize) -> Option<()>
-    requires { IsHeard failing.old }
-    ensures { IfSome result (λ done. IsHeard failing.new) }
+    requires { HasHeardSome failing.old }
+    ensures { IfSome result (λ done. HasHeardSome failing.new) }
 {
     for piece in bytes.chunks(size.max(1)) {
         failing.feed(piece).ok()?;

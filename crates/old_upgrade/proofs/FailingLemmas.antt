@@ -14,9 +14,9 @@ use Rattle.outcome_fold.specs.Order.{text_table, in_byte_order}
 use Rattle.outcome_fold.specs.Rows.{rows_of}
 use Rattle.run_ledger.proofs.TimedLemmas.{keys_sorted}
 use Rattle.old_folder.specs.Olds.{failing_name}
-use Rattle.old_runs.specs.Fed.{HasHeard}
+use Rattle.old_runs.specs.Fed.{HasHeardFile}
 use Rattle.old_runs.specs.Files.{IsDamaged, AreFailingIn}
-use Rattle.old_runs.specs.declared.failing.OldFailing.{OldFailing}
+use Rattle.old_runs.specs.declared.failing_tests.OldFailing.{OldFailing}
 use Rattle.old_upgrade.specs.Recording.{HasHeardTo, HasHeardAll, HearsPiece, FailedLast}
 use Rattle.old_upgrade.specs.Upgrading.{AreFailing}
 
@@ -30,7 +30,7 @@ failing_ordered bytes ids are = subst (IsStrictlySortedBy (slice_cmp nat_cmp)) (
 some_same : (a b : List ℕ) → Some a ≡ Some b → a ≡ b
 some_same a b e = cc
 
-pub heard_none : (a : Option Folder) (failing : OldFailing) → HasHeard failing [] → HasFile a failing_name → IfSome a (HasHeardTo 0 failing)
+pub heard_none : (a : Option Folder) (failing : OldFailing) → HasHeardFile failing [] → HasFile a failing_name → IfSome a (HasHeardTo 0 failing)
 heard_none None failing fresh there = tt
 heard_none (Some s) failing fresh there = by (s.disk.published failing_name) refl there
   where
@@ -49,8 +49,8 @@ module _ (place room count : ℕ) (old new : OldFailing) where
     size : count ≡ length (take room (drop place bytes))
     size = piece.size ∙ ap (λ (b : List ℕ). length (take room (drop place b))) same_bytes
 
-    heard_to : (next : List ℕ) → take place bytes ++ take room (drop place bytes) ≡ next → HasHeard new next
-    heard_to next is = subst (HasHeard new) ((λ i. take place bytes ++ take room (drop place (same_bytes i))) ∙ is) (piece.each (take place bytes) so_far.heard)
+    heard_to : (next : List ℕ) → take place bytes ++ take room (drop place bytes) ≡ next → HasHeardFile new next
+    heard_to next is = subst (HasHeardFile new) ((λ i. take place bytes ++ take room (drop place (same_bytes i))) ∙ is) (piece.each (take place bytes) so_far.heard)
 
     heard_more : (next : ℕ) → next ≡ place + room → room ≤ count → HasHeardTo next new s
     heard_more next is full = record {
@@ -77,14 +77,14 @@ module _ (place room count : ℕ) (old new : OldFailing) where
 failing_by : (o : Option (List ℕ)) (old : List ℕ) (ids : List (List ℕ)) → o ≡ Some old → (IsDamaged old → ⊥) → AreFailingIn old ids → AreFailing o ids
 failing_by o old ids is whole are = subst (λ (p : Option (List ℕ)). AreFailing p ids) (sym is) (whole, are)
 
-pub failed_last : (a : Option Folder) (failing : OldFailing) (ids : List (List ℕ)) → IfSome a (HasHeardAll failing) → ((bytes : List ℕ) → HasHeard failing bytes → IsDamaged bytes → ⊥) → ((bytes : List ℕ) → HasHeard failing bytes → AreFailingIn bytes ids) → IfSome a (FailedLast ids)
+pub failed_last : (a : Option Folder) (failing : OldFailing) (ids : List (List ℕ)) → IfSome a (HasHeardAll failing) → ((bytes : List ℕ) → HasHeardFile failing bytes → IsDamaged bytes → ⊥) → ((bytes : List ℕ) → HasHeardFile failing bytes → AreFailingIn bytes ids) → IfSome a (FailedLast ids)
 failed_last None failing ids all whole are = tt
 failed_last (Some s) failing ids all whole are = failing_by (s.disk.published failing_name) all.bytes ids all.there (whole all.bytes all.heard) (are all.bytes all.heard)
 
 damaged_by : (o : Option (List ℕ)) (old : List ℕ) → o ≡ Some old → IsDamaged old → IsSomeAnd o IsDamaged
 damaged_by o old is damaged = subst (λ (p : Option (List ℕ)). IsSomeAnd p IsDamaged) (sym is) damaged
 
-pub failing_damaged : (a : Option Folder) (failing : OldFailing) → IfSome a (HasHeardAll failing) → ((bytes : List ℕ) → HasHeard failing bytes → IsDamaged bytes) → IfSome a (λ s. IsSomeAnd (s.disk.published failing_name) IsDamaged)
+pub failing_damaged : (a : Option Folder) (failing : OldFailing) → IfSome a (HasHeardAll failing) → ((bytes : List ℕ) → HasHeardFile failing bytes → IsDamaged bytes) → IfSome a (λ s. IsSomeAnd (s.disk.published failing_name) IsDamaged)
 failing_damaged None failing all damaged = tt
 failing_damaged (Some s) failing all damaged = damaged_by (s.disk.published failing_name) all.bytes all.there (damaged all.bytes all.heard)
 
@@ -105,7 +105,7 @@ pub some_not_none : (o : Option (List (List ℕ))) (ids : List (List ℕ)) → o
 some_not_none o ids some none = cc
 
 -- a piece that was read and heard
-module _ (place room count : ℕ) (old new : OldFailing) (buf : List ℕ) (size : room ≡ length buf) (hears : (bytes : List ℕ) → HasHeard old bytes → HasHeard new (bytes ++ take count buf)) where
+module _ (place room count : ℕ) (old new : OldFailing) (buf : List ℕ) (size : room ≡ length buf) (hears : (bytes : List ℕ) → HasHeardFile old bytes → HasHeardFile new (bytes ++ take count buf)) where
   piece_by : (s : Folder) (o : Option (List ℕ)) → s.disk.published failing_name ≡ o → IsSome o → IfSome o (λ bytes. IsPart bytes place buf count) → HearsPiece place room count old new s
   piece_by s None is some part = cc
   piece_by s (Some whole) is some part =
@@ -114,7 +114,7 @@ module _ (place room count : ℕ) (old new : OldFailing) (buf : List ℕ) (size 
         bytes = whole;
         there = is;
         size = omega (arith, part.fits, length-take count buf, ap length read);
-        each = λ front heard. subst (λ (l : List ℕ). HasHeard new (front ++ l)) read (hears front heard);
+        each = λ front heard. subst (λ (l : List ℕ). HasHeardFile new (front ++ l)) read (hears front heard);
       }
 
   pub piece_heard : (a : Option Folder) → HasFile a failing_name → ReadsPart a failing_name place buf count → IfSome a (HearsPiece place room count old new)

@@ -15,7 +15,7 @@ use Rattle.packet_codec.specs.declared.event.Event.{Event}
 use Rattle.run_shelf.specs.Drafts.{SameButDraft}
 use Rattle.run_shelf.proofs.DraftLemmas.{grown_then}
 use Rattle.old_runs.specs.Fed.{HasFed}
-use Rattle.old_runs.specs.Giving.{Gives}
+use Rattle.old_runs.specs.Giving.{AppendsEvents}
 use Rattle.old_runs.specs.declared.file.OldFile.{OldFile}
 use Rattle.old_upgrade.specs.Recording.{HasRecordedTo, HasRecordedAll, RecordsMore, RecordsPiece}
 
@@ -128,7 +128,7 @@ module _ (name : List ℕ) (place room count : ℕ) (old new : OldFile) (a b c :
 
 module _ (name : List ℕ) (place room count : ℕ) (old new : OldFile) (buf held packets : List ℕ) (size : room ≡ length buf) (empty : held ≡ []) where
   abbrev Feeds : Type 0
-  Feeds = (bytes : List ℕ) (given : List Event) → HasFed old bytes given → Gives held packets (λ more. HasFed new (bytes ++ take count buf) (given ++ more))
+  Feeds = (bytes : List ℕ) (given : List Event) → HasFed old bytes given → AppendsEvents held packets (λ more. HasFed new (bytes ++ take count buf) (given ++ more))
 
   module _ (feeds : Feeds) (s t : Folder) (last : Grown packets s t) where
     by_file : (o : Option (List ℕ)) → s.disk.published name ≡ o → IsSome o → IfSome o (λ bytes. IsPart bytes place buf count) → RecordsPiece name place room count old new s t

@@ -24,22 +24,22 @@ use Rattle.old_folder.specs.Olds.{IsOldWith}
 use Rattle.old_folder.proofs.OldLemmas.{none_converted, one_more, stays}
 use Rattle.old_runs.specs.Fed.{HasFed}
 use Rattle.old_runs.specs.Files.{IsOldFile, IsDamaged}
-use Rattle.old_runs.specs.Giving.{Gives}
+use Rattle.old_runs.specs.Giving.{AppendsEvents}
 use Rattle.old_runs.specs.declared.file.OldFile.{OldFile}
 use Rattle.old_upgrade.specs.declared.faults.UpgradeFault.{UpgradeFault}
 use Rattle.old_upgrade.specs.declared.faults.UpgradeFault.TheVariants.{NoStore, NotOld, UnknownFormat, BadCount, BadRun, BadFailing, Shelf, NoMemory}
-use Rattle.old_upgrade.specs.Recording.{HasRecordedAll, RecordsRun, RecordFails, IsDamagedRun, ConvertsRun, ConvertFails, HasConvertedTo, IsFound, AllFail}
-use Rattle.old_upgrade.specs.Upgrading.{IsConversion, IsConverted, AreConverted, HasBadRun}
+use Rattle.old_upgrade.specs.Recording.{HasRecordedAll, RecordsRun, RecordFails, IsDamagedRun, ConvertsRun, ConvertFails, HasConvertedTo, IsFoundOld, AllFail}
+use Rattle.old_upgrade.specs.Upgrading.{IsConversion, IsConvertedFrom, AreConverted, HasBadRun}
 use Rattle.old_upgrade.proofs.FileLemmas.{packets_both, grown_disk, grown_nothing}
 
 -- ---- a file that was recorded whole
 
 module _ (number : ℕ) (file : OldFile) (held packets : List ℕ) (empty : held ≡ []) where
   abbrev Closes : Type 0
-  Closes = (bytes : List ℕ) (given : List Event) → HasFed file bytes given → Gives held packets (λ more. IsOldFile bytes (given ++ more))
+  Closes = (bytes : List ℕ) (given : List Event) → HasFed file bytes given → AppendsEvents held packets (λ more. IsOldFile bytes (given ++ more))
 
   module _ (s m t : Folder) (all : HasRecordedAll (full_name number) file s m) (closes : Closes) (last : Grown packets m t) where
-    gives : Gives held packets (λ more. IsOldFile all.bytes (all.given ++ more))
+    gives : AppendsEvents held packets (λ more. IsOldFile all.bytes (all.given ++ more))
     gives = closes all.bytes all.given all.fed
 
     converted : (IsDamaged all.bytes → ⊥) → IsConversion all.bytes (all.packets ++ packets)
@@ -53,7 +53,7 @@ module _ (number : ℕ) (file : OldFile) (held packets : List ℕ) (empty : held
     pub recorded : (IsDamaged all.bytes → ⊥) → RecordsRun number s t
     recorded whole = record {
       bytes = all.packets ++ packets;
-      is = subst (λ (o : Option (List ℕ)). IsConverted o (all.packets ++ packets)) (sym all.there) (converted whole);
+      is = subst (λ (o : Option (List ℕ)). IsConvertedFrom o (all.packets ++ packets)) (sym all.there) (converted whole);
       grown = grown_then s m t all.packets packets all.grown last;
     }
 
@@ -67,7 +67,7 @@ module _ (number : ℕ) (file : OldFile) (held packets : List ℕ) (empty : held
       goes_then a b c (HasRecordedAll (full_name number) file) (Grown packets) (RecordFails number (BadRun number)) all last
       (λ s m t p q. (refl, subst (λ (o : Option (List ℕ)). IsSomeAnd o IsDamaged) (sym p.there) (damaged p.bytes p.given p.fed)))
 
-none_by : (o : Option (List ℕ)) → o ≡ None → IsConverted o []
+none_by : (o : Option (List ℕ)) → o ≡ None → IsConvertedFrom o []
 none_by None is = refl
 none_by (Some bytes) is = cc
 
@@ -109,7 +109,7 @@ module _ (number : ℕ) where
       let writes : Writes recs.bytes s c = writes_grown s b c recs.bytes opened recs.grown in
       record {
         bytes = recs.bytes;
-        is = subst (λ (o : Option (List ℕ)). IsConverted o recs.bytes) (file_of s b (full_name number) (opened_disk s b opened)) recs.is;
+        is = subst (λ (o : Option (List ℕ)). IsConvertedFrom o recs.bytes) (file_of s b (full_name number) (opened_disk s b opened)) recs.is;
         kept = after_writing (KeepsFile name) (λ bytes s t draft does. does) recs.bytes s c d writes kept;
       }
 
@@ -216,7 +216,7 @@ none_there s rest = record {
   passed = passes_same (λ image. IsImage s.disk image ⊎ SameButNew 0 s.disk.published image) s s refl refl;
 }
 
-pub first_of_all : (count : ℕ) (s : Folder) → IsFound count s → HasConvertedTo 0 s s
+pub first_of_all : (count : ℕ) (s : Folder) → IsFoundOld count s → HasConvertedTo 0 s s
 first_of_all count s found = record {
   runs = [];
   counted = refl;
@@ -237,7 +237,7 @@ item_there runs number below = by (slice_get runs number) refl (within_items run
     by None is some = cc
     by (Some bytes) is some = (bytes, is)
 
-whole_by : (o : Option (List ℕ)) (old bytes : List ℕ) → o ≡ Some old → IsConverted o bytes → IsDamaged old → ⊥
+whole_by : (o : Option (List ℕ)) (old bytes : List ℕ) → o ≡ Some old → IsConvertedFrom o bytes → IsDamaged old → ⊥
 whole_by None old bytes is conv damaged = cc
 whole_by (Some other) old bytes is conv damaged = conv.whole (subst IsDamaged (sym (some_same other old is)) damaged)
 
@@ -247,7 +247,7 @@ whole_run files runs number old below are is damaged =
     let item = item_there runs number below in
     whole_by (files (full_name number)) old item.0 is (are number item.0 item.1) damaged
 
-module _ (count done : ℕ) (s m t : Folder) (found : IsFound count s) (less : done < count) (so_far : HasConvertedTo done s m) where
+module _ (count done : ℕ) (s m t : Folder) (found : IsFoundOld count s) (less : done < count) (so_far : HasConvertedTo done s m) where
   abbrev runs : List (List ℕ)
   runs = so_far.runs
 
@@ -298,7 +298,7 @@ module _ (count done : ℕ) (s m t : Folder) (found : IsFound count s) (less : d
           let same : step.bytes ≡ bytes = some_same step.bytes bytes (sym (ap (slice_get (runs ++ step.bytes ∷ [])) here ∙ last_item runs step.bytes) ∙ is) in
           let at : number ≡ done = omega (arith, here, so_far.counted) in
           let files : m.disk.published (full_name done) ≡ s.disk.published (full_name number) = full_here done (omega (arith, less, few)) ∙ ap (λ (n : ℕ). s.disk.published (full_name n)) (sym at) in
-          subst (IsConverted (s.disk.published (full_name number))) same (subst (λ (o : Option (List ℕ)). IsConverted o step.bytes) files step.is)
+          subst (IsConvertedFrom (s.disk.published (full_name number))) same (subst (λ (o : Option (List ℕ)). IsConvertedFrom o step.bytes) files step.is)
       | inr other ↦ so_far.are number bytes (sym (other_item runs step.bytes number other) ∙ is)
     ]
 
@@ -360,20 +360,20 @@ module _ (count done : ℕ) (s m t : Folder) (found : IsFound count s) (less : d
   all_fail NoMemory fails = stays_same fails
 
 -- where the folder is told or not
-module _ (count : ℕ) (a : Option Folder) (found : IfSome a (IsFound count)) where
+module _ (count : ℕ) (a : Option Folder) (found : IfSome a (IsFoundOld count)) where
   pub goes_first : Goes a a (HasConvertedTo 0)
   goes_first = by a found
     where
-      by : (a : Option Folder) → IfSome a (IsFound count) → Goes a a (HasConvertedTo 0)
+      by : (a : Option Folder) → IfSome a (IsFoundOld count) → Goes a a (HasConvertedTo 0)
       by None found = tt
       by (Some s) found = first_of_all count s found
 
   module _ (done : ℕ) (less : done < count) (b c : Option Folder) (so_far : Goes a b (HasConvertedTo done)) where
     abbrev Known : Folder → Folder → Type 0
-    Known s m = IsFound count s × HasConvertedTo done s m
+    Known s m = IsFoundOld count s × HasConvertedTo done s m
 
     known : Goes a b Known
-    known = goes_from a b (IsFound count) (HasConvertedTo done) Known found so_far (λ s t p q. (p, q))
+    known = goes_from a b (IsFoundOld count) (HasConvertedTo done) Known found so_far (λ s t p q. (p, q))
 
     pub goes_converted_more : Goes b c (ConvertsRun done) → Goes b c (PassesNew (done + 1)) → Goes a c (HasConvertedTo (done + 1))
     goes_converted_more step passes =

@@ -7,7 +7,7 @@ use Rattle.edge_io.proofs.Going.{goes_then, goes_from, goes_weaker}
 use Rattle.edge_io.proofs.Passing.{passes_same, passes_then, passes_weaker}
 use Rattle.run_shelf.specs.declared.faults.ShelfCall.{ShelfCall}
 use Rattle.run_shelf.specs.declared.faults.ShelfCall.TheVariants as call
-use Rattle.run_shelf.specs.Adoption.{IsConverted as StandConverted, IsReady, SameButNew, PassesNew, PassesAdoption, Adopts, AdoptFails, IsAdopted, IsOnTheWay}
+use Rattle.run_shelf.specs.Adoption.{IsConverted as StandConverted, IsReadyToAdopt, SameButNew, PassesNew, PassesAdoption, Adopts, AdoptFails, IsAdopted, IsBeingAdopted}
 use Rattle.run_shelf.specs.Bases.{Base, base_name, base_in}
 use Rattle.run_shelf.specs.Images.{AtRest, PassesOld}
 use Rattle.run_shelf.specs.Outcomes.{FailsAt}
@@ -24,13 +24,13 @@ use Rattle.old_folder.proofs.OldLemmas.{all_converted, upgraded, stays, failing_
 use Rattle.old_runs.specs.Files.{IsDamaged}
 use Rattle.old_upgrade.specs.declared.faults.UpgradeFault.{UpgradeFault}
 use Rattle.old_upgrade.specs.declared.faults.UpgradeFault.TheVariants.{NoStore, NotOld, UnknownFormat, BadCount, BadRun, BadFailing, Shelf, NoMemory}
-use Rattle.old_upgrade.specs.Recording.{HasConvertedTo, IsFound, AllFail, FailedLast, FailingFails, FoundFails, fault_of_look}
-use Rattle.old_upgrade.specs.Upgrading.{upgrade_failed, IsConverted, AreFailing, BecomesRepository, BecomesOne, Upgrades, IsEither, PassesUpgrade, HasBadRun, HasBadFailing, UpgradeFails}
+use Rattle.old_upgrade.specs.Recording.{HasConvertedTo, IsFoundOld, AllFail, FailedLast, FailingFails, FoundFails, fault_of_look}
+use Rattle.old_upgrade.specs.Upgrading.{upgrade_failed, IsConvertedFrom, AreFailing, BecomesRepository, BecomesOne, Upgrades, IsEither, PassesUpgrade, HasBadRun, HasBadFailing, UpgradeFails}
 use Rattle.old_upgrade.proofs.RunLemmas.{whole_run}
 
 -- ---- behind the look
 
-module _ (count : ℕ) (s : Folder) (found : IsFound count s) where
+module _ (count : ℕ) (s : Folder) (found : IsFoundOld count s) where
   new_stays : (image : Files) → SameButNew count s.disk.published image → StaysOld s.disk.published image
   new_stays image new = stays count s.disk.published image found.old new
 
@@ -50,7 +50,7 @@ module _ (count : ℕ) (s : Folder) (found : IsFound count s) where
     counted_old : IsOldWith (length has.runs) s.disk.published
     counted_old = subst (λ (n : ℕ). IsOldWith n s.disk.published) (sym has.counted) found.old
 
-    pub ready : IsReady count m
+    pub ready : IsReadyToAdopt count m
     ready = record {
       rest = has.converts.rest;
       converted = subst (λ (n : ℕ). StandConverted n m.disk.published) has.counted (all_converted has.runs s.disk.published m.disk.published counted_old has.converts.has);
@@ -97,7 +97,7 @@ module _ (count : ℕ) (s : Folder) (found : IsFound count s) where
           new_stays image
           (new_then count s.disk.published m.disk.published image but_new (subst (λ (f : Files). SameButNew count m.disk.published f) (sym is) (base_put count m.disk.published bytes)))
 
-      on_the_way : (image : Files) → IsOnTheWay bytes m.disk.published image → IsEither s.disk.published image
+      on_the_way : (image : Files) → IsBeingAdopted bytes m.disk.published image → IsEither s.disk.published image
       on_the_way image (inl is) = inl (base_stays image is)
       on_the_way image (inr adopted) = inr (count, becomes image adopted)
 
@@ -105,7 +105,7 @@ module _ (count : ℕ) (s : Folder) (found : IsFound count s) where
       left_there image left =
           subst (λ (f : Files). StaysOld s.disk.published f) (sym (rest_images m.disk.published image (subst (λ (d : Disk). IsImage d image) has.converts.rest left))) still_stays
 
-      adopting_left : (image : Files) → IsImage m.disk image ⊎ IsOnTheWay bytes m.disk.published image → IsImage s.disk image ⊎ IsEither s.disk.published image
+      adopting_left : (image : Files) → IsImage m.disk image ⊎ IsBeingAdopted bytes m.disk.published image → IsImage s.disk image ⊎ IsEither s.disk.published image
       adopting_left image (inl left) = inr (inl (left_there image left))
       adopting_left image (inr way) = inr (on_the_way image way)
 
@@ -127,7 +127,7 @@ module _ (count : ℕ) (s : Folder) (found : IsFound count s) where
         adopt_passes passes =
             passes_then (λ image. IsImage s.disk image ⊎ IsEither s.disk.published image) s m t
             (passes_either m (subst (λ (n : ℕ). PassesNew n s m) has.counted has.converts.passed))
-            (passes_weaker (λ image. IsImage m.disk image ⊎ IsOnTheWay bytes m.disk.published image) (λ image. IsImage s.disk image ⊎ IsEither s.disk.published image) adopting_left m t passes)
+            (passes_weaker (λ image. IsImage m.disk image ⊎ IsBeingAdopted bytes m.disk.published image) (λ image. IsImage s.disk image ⊎ IsEither s.disk.published image) adopting_left m t passes)
 
 -- why not all runs were converted
 pub all_found_fails : (fault : UpgradeFault) (s t : Folder) → AllFail fault s t → FoundFails fault s t
@@ -141,19 +141,19 @@ all_found_fails (Shelf which) s t fails = inl fails
 all_found_fails NoMemory s t fails = fails
 
 -- where the folder is told or not
-module _ (count : ℕ) (a : Option Folder) (found : IfSome a (IsFound count)) where
+module _ (count : ℕ) (a : Option Folder) (found : IfSome a (IsFoundOld count)) where
   pub goes_all_found_fails : (fault : UpgradeFault) (b : Option Folder) → Goes a b (AllFail fault) → Goes a b (FoundFails fault)
   goes_all_found_fails fault b fails = goes_weaker a b (AllFail fault) (FoundFails fault) fails (all_found_fails fault)
 
   pub goes_new_passes : (b : Option Folder) → Goes a b (PassesNew count) → Goes a b PassesUpgrade
-  goes_new_passes b passes = goes_from a b (IsFound count) (PassesNew count) PassesUpgrade found passes (λ s t p q. passes_either count s p t q)
+  goes_new_passes b passes = goes_from a b (IsFoundOld count) (PassesNew count) PassesUpgrade found passes (λ s t p q. passes_either count s p t q)
 
   module _ (b : Option Folder) (has : Goes a b (HasConvertedTo count)) where
     abbrev Known : Folder → Folder → Type 0
-    Known s m = IsFound count s × HasConvertedTo count s m
+    Known s m = IsFoundOld count s × HasConvertedTo count s m
 
     known : Goes a b Known
-    known = goes_from a b (IsFound count) (HasConvertedTo count) Known found has (λ s t p q. (p, q))
+    known = goes_from a b (IsFoundOld count) (HasConvertedTo count) Known found has (λ s t p q. (p, q))
 
     pub goes_stays : Goes a b (λ s t. StaysOld s.disk.published t.disk.published)
     goes_stays = goes_weaker a b Known (λ s t. StaysOld s.disk.published t.disk.published) known (λ s t p. still_stays count s p.0 t p.1)
@@ -161,10 +161,10 @@ module _ (count : ℕ) (a : Option Folder) (found : IfSome a (IsFound count)) wh
     pub goes_converted_passes : Goes a b PassesUpgrade
     goes_converted_passes = goes_weaker a b Known PassesUpgrade known (λ s t p. passes_either count s p.0 t (subst (λ (n : ℕ). PassesNew n s t) p.1.counted p.1.converts.passed))
 
-    pub some_ready : IfSome b (IsReady count)
+    pub some_ready : IfSome b (IsReadyToAdopt count)
     some_ready = by a b known
       where
-        by : (a b : Option Folder) → Goes a b Known → IfSome b (IsReady count)
+        by : (a b : Option Folder) → Goes a b Known → IfSome b (IsReadyToAdopt count)
         by None None p = tt
         by None (Some t) p = absurd p
         by (Some s) None p = absurd p
@@ -231,7 +231,7 @@ module _ (count : ℕ) (s m : Folder) (counts : IsImage s.disk s.disk.published)
   same_files : m.disk.published ≡ s.disk.published
   same_files = published_after s m counts surveys.settled
 
-  pub found_then : IsFound count m
+  pub found_then : IsFoundOld count m
   found_then = record { rest = rests_after s m counts surveys.settled; old = subst (IsOldWith count) (sym same_files) surveys.is }
 
   module _ (t : Folder) where
@@ -269,10 +269,10 @@ module _ (count : ℕ) (a b : Option Folder) (counts : IfSome a (λ s. IsImage s
   looked : Goes a b Looked
   looked = goes_from a b (λ s. IsImage s.disk s.disk.published) (SurveysOld count) Looked counts surveys (λ s t p q. (p, q))
 
-  pub some_found : IfSome b (IsFound count)
+  pub some_found : IfSome b (IsFoundOld count)
   some_found = by a b looked
     where
-      by : (a b : Option Folder) → Goes a b Looked → IfSome b (IsFound count)
+      by : (a b : Option Folder) → Goes a b Looked → IfSome b (IsFoundOld count)
       by None None p = tt
       by None (Some t) p = absurd p
       by (Some s) None p = absurd p
@@ -300,5 +300,5 @@ look_failed old.BadCount = refl
 look_failed (old.Shelf which) = refl
 look_failed old.NoMemory = refl
 
-pub ready_by : (b : Option Folder) (count : ℕ) (bytes : List ℕ) (ids : List (List ℕ)) → base_in bytes ≡ record { count = count; ids = ids } → IfSome b (IsReady count) → IfSome b (IsReady (base_in bytes).count)
-ready_by b count bytes ids tells is = subst (λ (base : Base). IfSome b (IsReady base.count)) (sym tells) is
+pub ready_by : (b : Option Folder) (count : ℕ) (bytes : List ℕ) (ids : List (List ℕ)) → base_in bytes ≡ record { count = count; ids = ids } → IfSome b (IsReadyToAdopt count) → IfSome b (IsReadyToAdopt (base_in bytes).count)
+ready_by b count bytes ids tells is = subst (λ (base : Base). IfSome b (IsReadyToAdopt base.count)) (sym tells) is

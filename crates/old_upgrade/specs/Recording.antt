@@ -12,11 +12,11 @@ use Rattle.old_folder.specs.Converting.{Converts, StaysOld}
 use Rattle.old_folder.specs.declared.faults.OldFault.{OldFault}
 use Rattle.old_folder.specs.declared.faults.OldFault.TheVariants as old
 use Rattle.old_folder.specs.Olds.{failing_name, IsOldWith}
-use Rattle.old_runs.specs.Fed.{HasFed, HasHeard}
+use Rattle.old_runs.specs.Fed.{HasFed, HasHeardFile}
 use Rattle.old_runs.specs.Files.{IsDamaged}
-use Rattle.old_runs.specs.declared.failing.OldFailing.{OldFailing}
+use Rattle.old_runs.specs.declared.failing_tests.OldFailing.{OldFailing}
 use Rattle.old_runs.specs.declared.file.OldFile.{OldFile}
-use Rattle.old_upgrade.specs.Upgrading.{IsConverted, AreConverted, AreFailing, HasBadRun, HasBadFailing, IsEither}
+use Rattle.old_upgrade.specs.Upgrading.{IsConvertedFrom, AreConverted, AreFailing, HasBadRun, HasBadFailing, IsEither}
 use Rattle.old_upgrade.specs.declared.faults.UpgradeFault.{UpgradeFault}
 use Rattle.old_upgrade.specs.declared.faults.UpgradeFault.TheVariants.{NoStore, NotOld, UnknownFormat, BadCount, BadRun, BadFailing, Shelf, NoMemory}
 
@@ -63,7 +63,7 @@ pub record RecordsPiece (name : List ℕ) (place room count : ℕ) (old new : Ol
 -- what the file of the run becomes stands behind the draft
 pub record RecordsRun (number : ℕ) (s t : Folder) : Type 0 where
   pub bytes : List ℕ
-  pub is : IsConverted (s.disk.published (full_name number)) bytes
+  pub is : IsConvertedFrom (s.disk.published (full_name number)) bytes
   pub grown : Grown bytes s t
 
 -- the file of this run is damaged
@@ -95,7 +95,7 @@ IsShelfFault NoMemory = ⊥
 -- the run stands converted for good
 pub record ConvertsRun (number : ℕ) (s t : Folder) : Type 0 where
   pub bytes : List ℕ
-  pub is : IsConverted (s.disk.published (full_name number)) bytes
+  pub is : IsConvertedFrom (s.disk.published (full_name number)) bytes
   pub kept : KeepsFile (partial_name number) bytes s t
 
 -- why it does not, and what reads give then
@@ -119,7 +119,7 @@ pub record HasConvertedTo (done : ℕ) (s t : Folder) : Type 0 where
   pub converts : Converts runs s t
 
 -- the folder, as it was found: at rest, of the original tool, with so many runs
-pub record IsFound (count : ℕ) (s : Folder) : Type 0 where
+pub record IsFoundOld (count : ℕ) (s : Folder) : Type 0 where
   pub rest : AtRest s
   pub old : IsOldWith count s.disk.published
 
@@ -156,20 +156,20 @@ pub record HasHeardTo (place : ℕ) (failing : OldFailing) (s : Folder) : Type 0
   pub bytes : List ℕ
   pub there : s.disk.published failing_name ≡ Some bytes
   pub within : place ≤ length bytes
-  pub heard : HasHeard failing (take place bytes)
+  pub heard : HasHeardFile failing (take place bytes)
 
 -- all of it was heard
 pub record HasHeardAll (failing : OldFailing) (s : Folder) : Type 0 where
   pub bytes : List ℕ
   pub there : s.disk.published failing_name ≡ Some bytes
-  pub heard : HasHeard failing bytes
+  pub heard : HasHeardFile failing bytes
 
 -- the bytes of the file from this place on, as many as there are and fit, were heard
 pub record HearsPiece (place room count : ℕ) (old new : OldFailing) (s : Folder) : Type 0 where
   pub bytes : List ℕ
   pub there : s.disk.published failing_name ≡ Some bytes
   pub size : count ≡ length (take room (drop place bytes))
-  pub each : (front : List ℕ) → HasHeard old front → HasHeard new (front ++ take room (drop place bytes))
+  pub each : (front : List ℕ) → HasHeardFile old front → HasHeardFile new (front ++ take room (drop place bytes))
 
 -- ---- behind the look
 

@@ -8,9 +8,9 @@ use Rattle.packet_codec.specs.declared.event.Event.{Event}
 use Rattle.run_shelf.specs.Images.{AtRest}
 use Rattle.run_shelf.specs.Outcomes.{FailsAt}
 use Rattle.run_shelf.specs.Repository.{full_name, format_name, HasFormat}
-use Rattle.run_shelf.specs.Sides.{side_name}
+use Rattle.run_shelf.specs.Sides.{cache_file_name}
 use Rattle.run_shelf.specs.declared.faults.ShelfCall.{ShelfCall}
-use Rattle.run_shelf.specs.declared.side.Side.TheVariants as side
+use Rattle.run_shelf.specs.declared.cache_file.CacheFile.TheVariants as side
 use Rattle.old_folder.specs.Converting.{StaysOld, IsUpgraded}
 use Rattle.old_folder.specs.Looking.{HasStrangeFormat, LacksCount}
 use Rattle.old_folder.specs.Olds.{failing_name, IsOldWith}
@@ -28,9 +28,9 @@ pub record IsConversion (old bytes : List ℕ) : Type 0 where
   pub are : ArePacketsOf events bytes
 
 -- the bytes of the run that a file becomes: none where there is no file
-abbrev pub IsConverted : Option (List ℕ) → List ℕ → Type 0
-IsConverted None bytes = bytes ≡ []
-IsConverted (Some old) bytes = IsConversion old bytes
+abbrev pub IsConvertedFrom : Option (List ℕ) → List ℕ → Type 0
+IsConvertedFrom None bytes = bytes ≡ []
+IsConvertedFrom (Some old) bytes = IsConversion old bytes
 
 -- the ids that failed last, as the file tells them: none where there is no file
 abbrev pub AreFailing : Option (List ℕ) → List (List ℕ) → Type 0
@@ -39,7 +39,7 @@ AreFailing (Some old) ids = (IsDamaged old → ⊥) × AreFailingIn old ids
 
 -- so each of the runs is that of the file of its number
 abbrev pub AreConverted : Files → List (List ℕ) → Type 0
-AreConverted files runs = (number : ℕ) (bytes : List ℕ) → slice_get runs number ≡ Some bytes → IsConverted (files (full_name number)) bytes
+AreConverted files runs = (number : ℕ) (bytes : List ℕ) → slice_get runs number ≡ Some bytes → IsConvertedFrom (files (full_name number)) bytes
 
 -- the repository of the folder's runs, and of what failed last in it
 pub record BecomesRepository (count : ℕ) (files image : Files) : Type 0 where
@@ -121,5 +121,5 @@ upgrade_failed (Err NoMemory) = false
 
 -- neither cache is there
 pub record LacksCaches (files : Files) : Type 0 where
-  pub failing : files (side_name side.Failing) ≡ None
-  pub times : files (side_name side.Times) ≡ None
+  pub failing : files (cache_file_name side.Failing) ≡ None
+  pub times : files (cache_file_name side.Times) ≡ None

@@ -12,15 +12,15 @@ use Rattle.outcome_fold.specs.Started.{open_table}
 use Rattle.outcome_fold.specs.Folded.{extended}
 use Rattle.outcome_fold.proofs.StepLemmas.{stays, goes, ends}
 
-abbrev pub Kept : Type 0
-Kept = FinMap test_cmp Started
+abbrev pub StartedByTest : Type 0
+StartedByTest = FinMap test_cmp Started
 
-pub stays_open : (seen : List Event) (e : Event) (kept : Kept) → kept ≡ open_table seen → None ≡ test_of e → kept ≡ open_table (seen ++ e ∷ [])
+pub stays_open : (seen : List Event) (e : Event) (kept : StartedByTest) → kept ≡ open_table seen → None ≡ test_of e → kept ≡ open_table (seen ++ e ∷ [])
 stays_open seen e kept is none = is ∙ sym (stays seen e (sym none))
 
-pub goes_on : (seen : List Event) (e : Event) (kept next : Kept) (t : TestKey) (s : Started) → kept ≡ open_table seen → Some t ≡ test_of e → None ≡ ended_by e.status → s ≡ extended (fin.get kept t) e → next ≡ fin.insert kept t s → next ≡ open_table (seen ++ e ∷ [])
+pub goes_on : (seen : List Event) (e : Event) (kept next : StartedByTest) (t : TestKey) (s : Started) → kept ≡ open_table seen → Some t ≡ test_of e → None ≡ ended_by e.status → s ≡ extended (fin.get kept t) e → next ≡ fin.insert kept t s → next ≡ open_table (seen ++ e ∷ [])
 goes_on seen e kept next t s is test none part insert =
-    insert ∙ ap (fin.insert kept t) part ∙ ap (λ (m : Kept). fin.insert m t (extended (fin.get m t) e)) is ∙ sym (goes seen e t (sym test) (sym none))
+    insert ∙ ap (fin.insert kept t) part ∙ ap (λ (m : StartedByTest). fin.insert m t (extended (fin.get m t) e)) is ∙ sym (goes seen e t (sym test) (sym none))
 
-pub is_closed : (seen : List Event) (e : Event) (kept next : Kept) (t : TestKey) (how : Ended) → kept ≡ open_table seen → Some t ≡ test_of e → Some how ≡ ended_by e.status → next ≡ fin.remove kept t → next ≡ open_table (seen ++ e ∷ [])
-is_closed seen e kept next t how is test some remove = remove ∙ ap (λ (m : Kept). fin.remove m t) is ∙ sym (ends seen e t how (sym test) (sym some))
+pub is_closed : (seen : List Event) (e : Event) (kept next : StartedByTest) (t : TestKey) (how : Ended) → kept ≡ open_table seen → Some t ≡ test_of e → Some how ≡ ended_by e.status → next ≡ fin.remove kept t → next ≡ open_table (seen ++ e ∷ [])
+is_closed seen e kept next t how is test some remove = remove ∙ ap (λ (m : StartedByTest). fin.remove m t) is ∙ sym (ends seen e t how (sym test) (sym some))

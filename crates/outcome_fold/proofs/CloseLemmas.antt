@@ -20,7 +20,7 @@ use Rattle.outcome_fold.specs.declared.part.EndedPart.{EndedPart}
 use Rattle.outcome_fold.specs.EndedParts.{part_of_open, open_parts}
 use Rattle.outcome_fold.proofs.OrderLemmas.{tests_total, exact_tests}
 use Rattle.outcome_fold.proofs.TableLemmas.{none_of_length, entries_in_order}
-use Rattle.outcome_fold.proofs.FoldLemmas.{part_at}
+use Rattle.outcome_fold.proofs.FoldLemmas.{part_of_test}
 
 module _ {K V W : Type 0} {R : K → K → Ordering} (same : IsAntisymmetric R) (h : K → V → W) where
   abbrev with_values : List (K × V) → List (K × W)
@@ -51,10 +51,10 @@ map_map g f [] = refl
 map_map g f (x ∷ xs) = ap (λ l. g (f x) ∷ l) (map_map g f xs)
 
 -- the entries that are kept at the end, in order, give what is made of each open test and what its part says
-values_at_end : {W : Type 0} (h : TestKey → Started → W) (seen : List Event) (es : List (TestKey × Started)) → IsStrictlySortedBy test_cmp (map (λ e. e.0) es) → fin.from_entries {R = test_cmp} es ≡ open_table seen → map (λ (e : TestKey × Started). h e.0 e.1) es ≡ fin.values (table {R = test_cmp} (λ test. h test (started_of (part_at seen test))) (open_tests seen))
+values_at_end : {W : Type 0} (h : TestKey → Started → W) (seen : List Event) (es : List (TestKey × Started)) → IsStrictlySortedBy test_cmp (map (λ e. e.0) es) → fin.from_entries {R = test_cmp} es ≡ open_table seen → map (λ (e : TestKey × Started). h e.0 e.1) es ≡ fin.values (table {R = test_cmp} (λ test. h test (started_of (part_of_test seen test))) (open_tests seen))
 values_at_end h seen es ordered is =
     ap (map (λ (e : TestKey × Started). h e.0 e.1)) (sym (entries_in_order tests_total es ordered) ∙ ap fin.entries is)
-    ∙ sym (ap (map (λ e. e.1)) (table_with exact_tests h tests_total (λ test. started_of (part_at seen test)) (open_tests seen))
+    ∙ sym (ap (map (λ e. e.1)) (table_with exact_tests h tests_total (λ test. started_of (part_of_test seen test)) (open_tests seen))
     ∙ map_map (λ e. e.1) (λ (e : TestKey × Started). (e.0, h e.0 e.1)) (fin.entries (open_table seen)))
 
 abbrev pub row_of_open : TestKey × Started → Row

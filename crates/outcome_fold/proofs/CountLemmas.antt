@@ -5,7 +5,7 @@ use Rattle.std.specs.Option.{unwrap_or}
 use Rattle.std.proofs.lemmas.List.Sums.{sum_by_push, sum_by-cons}
 use Rattle.outcome_fold.specs.declared.row.Row.{Row}
 use Rattle.outcome_fold.specs.declared.row.Counts.{Counts}
-use Rattle.outcome_fold.specs.Answers.{row_fails, passes, is_skipped, is_counted, total_time, counted_rows, counts_in, counts_of}
+use Rattle.outcome_fold.specs.Answers.{row_fails, row_passes, is_skipped, is_counted, total_time, counted_rows, counts_in, counts_of}
 use Rattle.outcome_fold.proofs.FoldLemmas.{append_none}
 use Rattle.outcome_fold.proofs.TableLemmas.{any_push}
 use Rattle.outcome_fold.proofs.AnswerLemmas.{filter_at}
@@ -24,7 +24,7 @@ time_then total nanos = cond (is_some total || is_some nanos) (Some (unwrap_or t
 abbrev pub counted : Counts → Row → Counts
 counted c row = record {
   total = c.total + 1;
-  passed = c.passed + cond (passes row) 1 0;
+  passed = c.passed + cond (row_passes row) 1 0;
   failed = c.failed + cond (row_fails row) 1 0;
   skipped = c.skipped + cond (is_skipped row) 1 0;
   nanos = time_then c.nanos row.nanos;
@@ -58,7 +58,7 @@ time_push rows row =
 counts_push : (rows : List Row) (row : Row) → counts_in (rows ++ row ∷ []) ≡ counted (counts_in rows) row
 counts_push rows row =
     let total = length_push rows row in
-    let passed = count_push passes rows row in
+    let passed = count_push row_passes rows row in
     let failed = count_push row_fails rows row in
     let skipped = count_push is_skipped rows row in
     let nanos = time_push rows row in

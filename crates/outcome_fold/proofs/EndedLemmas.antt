@@ -12,7 +12,7 @@ use Rattle.outcome_fold.specs.Parts.{test_of, text_in, ended_by, instant, events
 use Rattle.outcome_fold.specs.Rows.{part_with, row_completing, completed_row}
 use Rattle.outcome_fold.specs.Started.{started_of, open_table}
 use Rattle.outcome_fold.specs.Files.{name_in, text_shown, with_piece}
-use Rattle.outcome_fold.specs.Folded.{extended, files_in, fails_by, gives_failure}
+use Rattle.outcome_fold.specs.Folded.{extended, files_in, is_failing_end, gives_failure}
 use Rattle.outcome_fold.specs.EndedParts.{part_completing, completed_part, row_of_part, text_told}
 use Rattle.outcome_fold.specs.declared.row.Row.{Row}
 use Rattle.outcome_fold.proofs.FoldLemmas.{get-open_table}
@@ -47,7 +47,7 @@ more_files : (o : Option Started) (e : Event) → (extended o e).files ≡ with_
 more_files None e = refl
 more_files (Some s) e = refl
 
-failure_at : (how : Option Ended) (seen : List Event) (e : Event) (t : TestKey) (text : List ℕ) → fails_by how ≡ true → text ≡ text_shown (started_of (part_with t seen e)).files → text ≡ text_told (part_completing (Some t) how seen e)
+failure_at : (how : Option Ended) (seen : List Event) (e : Event) (t : TestKey) (text : List ℕ) → is_failing_end how ≡ true → text ≡ text_shown (started_of (part_with t seen e)).files → text ≡ text_told (part_completing (Some t) how seen e)
 failure_at None seen e t text fails is = absurd (true≢false (sym fails))
 failure_at (Some how) seen e t text fails is = is ∙ sym (ap (λ b. cond b (text_shown (started_of (part_with t seen e)).files) []) fails)
 
@@ -60,7 +60,7 @@ text_gives seen e kept t text has test fails is =
     ∙ ap text_shown (sym (more_files (fin.get (open_table seen) t) e)) ∙ ap (λ (s : Started). text_shown s.files) (started_is seen e t))
     ∙ (λ i. text_told (part_completing (test i) (ended_by e.status) seen e))
 
-no_failure_at : (test : Option TestKey) (how : Option Ended) (seen : List Event) (e : Event) → fails_by how ≡ false → [] ≡ text_told (part_completing test how seen e)
+no_failure_at : (test : Option TestKey) (how : Option Ended) (seen : List Event) (e : Event) → is_failing_end how ≡ false → [] ≡ text_told (part_completing test how seen e)
 no_failure_at None how seen e passes = refl
 no_failure_at (Some t) None seen e passes = refl
 no_failure_at (Some t) (Some how) seen e passes = sym (ap (λ b. cond b (text_shown (started_of (part_with t seen e)).files) []) passes)

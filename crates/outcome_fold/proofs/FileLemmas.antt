@@ -9,7 +9,7 @@ use Rattle.packet_codec.specs.declared.event.FilePart.{FilePart}
 use Rattle.packet_codec.specs.declared.event.Event.{Event}
 use Rattle.outcome_fold.specs.declared.files.KeptFiles.{KeptFiles}
 use Rattle.outcome_fold.specs.Parts.{text_in, text_limit}
-use Rattle.outcome_fold.specs.Files.{name_in, piece_in, has_bytes, pieces_of, is_traceback, tracebacks_in, others_in, head_of, end_of, between, run_on, are_one_file, last_name, kept_of, files_by, files_of, no_files, is_current, shown_by, text_shown, with_other, with_bytes, with_piece}
+use Rattle.outcome_fold.specs.Files.{name_in, piece_in, has_any_byte, text_pieces_of, is_traceback, tracebacks_in, other_files_in, frame_head, frame_end, between, run_on, are_one_file, last_name, kept_files_of, files_by, files_of, no_files, is_current, shown_by, text_shown, with_other, with_bytes, with_piece}
 use Rattle.outcome_fold.proofs.FoldLemmas.{filter_push, append_none}
 use Rattle.outcome_fold.proofs.TextLemmas.{take_again, cut_then, four_tied}
 
@@ -80,7 +80,7 @@ abbrev goes_on : List ℕ → Option (List ℕ) → List ℕ → List ℕ → Li
 goes_on first later others traceback bytes = record { first = Some first; later = later; others = take text_limit (others ++ bytes); traceback = traceback }
 
 abbrev begins : List ℕ → List ℕ → List ℕ → List ℕ → List ℕ → KeptFiles
-begins first others traceback name bytes = record { first = Some first; later = Some name; others = take text_limit (others ++ end_of others ++ head_of name ++ bytes); traceback = traceback }
+begins first others traceback name bytes = record { first = Some first; later = Some name; others = take text_limit (others ++ frame_end others ++ frame_head name ++ bytes); traceback = traceback }
 
 module _ (o : FilePart) (os : List FilePart) (traceback : List ℕ) (p : FilePart) where
   abbrev one : Bool
@@ -101,29 +101,29 @@ module _ (o : FilePart) (os : List FilePart) (traceback : List ℕ) (p : FilePar
   step_is : (s : Bool) → bytes_eq last p.name ≡ s → with_other (Some o.name) later (take text_limit run) traceback p.name p.bytes ≡ cond s (goes_on o.name later (take text_limit run) traceback p.bytes) (begins o.name (take text_limit run) traceback p.name p.bytes)
   step_is s is = ap (λ b. cond b (goes_on o.name later (take text_limit run) traceback p.bytes) (begins o.name (take text_limit run) traceback p.name p.bytes)) (ap (λ n. bytes_eq n p.name) (current_is one o.name last (one_last o.name os)) ∙ is)
 
-  one_more : (s : Bool) → bytes_eq last p.name ≡ s → kept_of (o ∷ os ++ p ∷ []) traceback ≡ with_other (Some o.name) later (take text_limit run) traceback p.name p.bytes
+  one_more : (s : Bool) → bytes_eq last p.name ≡ s → kept_files_of (o ∷ os ++ p ∷ []) traceback ≡ with_other (Some o.name) later (take text_limit run) traceback p.name p.bytes
   one_more true same =
       let name = named ∙ later_same one o.name last p.name (one_last o.name os) same in
       let bytes : take text_limit (run_on o.name o.bytes (os ++ p ∷ [])) ≡ take text_limit (take text_limit run ++ p.bytes) =
-      ap (take text_limit) (run_push o.name o.bytes os p ∙ ap (λ b. run ++ cond b [] (end_of run ++ head_of p.name) ++ p.bytes) same ∙ ap (λ l. l ++ p.bytes) (append_none run)) ∙ sym (take_again text_limit run p.bytes) in
+      ap (take text_limit) (run_push o.name o.bytes os p ∙ ap (λ b. run ++ cond b [] (frame_end run ++ frame_head p.name) ++ p.bytes) same ∙ ap (λ l. l ++ p.bytes) (append_none run)) ∙ sym (take_again text_limit run p.bytes) in
       (λ i. record { first = Some o.name; later = name i; others = bytes i; traceback = traceback }) ∙ sym (step_is true same)
   one_more false other =
       let name = named ∙ later_other one o.name last p.name (one_last o.name os) other in
-      let bytes : take text_limit (run_on o.name o.bytes (os ++ p ∷ [])) ≡ take text_limit (take text_limit run ++ end_of (take text_limit run) ++ head_of p.name ++ p.bytes) =
-      ap (take text_limit) (run_push o.name o.bytes os p ∙ ap (λ b. run ++ cond b [] (end_of run ++ head_of p.name) ++ p.bytes) other ∙ append_assoc run (end_of run ++ head_of p.name) p.bytes)
-      ∙ sym (cut_then text_limit run (λ text. end_of text ++ head_of p.name ++ p.bytes))
-      ∙ ap (take text_limit) (sym (four_tied (take text_limit run) (end_of (take text_limit run)) (head_of p.name) p.bytes)) in
+      let bytes : take text_limit (run_on o.name o.bytes (os ++ p ∷ [])) ≡ take text_limit (take text_limit run ++ frame_end (take text_limit run) ++ frame_head p.name ++ p.bytes) =
+      ap (take text_limit) (run_push o.name o.bytes os p ∙ ap (λ b. run ++ cond b [] (frame_end run ++ frame_head p.name) ++ p.bytes) other ∙ append_assoc run (frame_end run ++ frame_head p.name) p.bytes)
+      ∙ sym (cut_then text_limit run (λ text. frame_end text ++ frame_head p.name ++ p.bytes))
+      ∙ ap (take text_limit) (sym (four_tied (take text_limit run) (frame_end (take text_limit run)) (frame_head p.name) p.bytes)) in
       (λ i. record { first = Some o.name; later = name i; others = bytes i; traceback = traceback }) ∙ sym (step_is false other)
 
-others_push : (os : List FilePart) (traceback : List ℕ) (p : FilePart) → kept_of (os ++ p ∷ []) traceback ≡ with_other (kept_of os traceback).first (kept_of os traceback).later (kept_of os traceback).others (kept_of os traceback).traceback p.name p.bytes
+others_push : (os : List FilePart) (traceback : List ℕ) (p : FilePart) → kept_files_of (os ++ p ∷ []) traceback ≡ with_other (kept_files_of os traceback).first (kept_files_of os traceback).later (kept_files_of os traceback).others (kept_files_of os traceback).traceback p.name p.bytes
 others_push [] traceback p = refl
 others_push (o ∷ os) traceback p = one_more o os traceback p (bytes_eq (last_name o.name os) p.name) refl
 
-other_traceback : (os : List FilePart) (old new : List ℕ) → kept_of os new ≡ record { first = (kept_of os old).first; later = (kept_of os old).later; others = (kept_of os old).others; traceback = new }
+other_traceback : (os : List FilePart) (old new : List ℕ) → kept_files_of os new ≡ record { first = (kept_files_of os old).first; later = (kept_files_of os old).later; others = (kept_files_of os old).others; traceback = new }
 other_traceback [] old new = refl
 other_traceback (o ∷ os) old new = refl
 
-old_traceback : (os : List FilePart) (old : List ℕ) → (kept_of os old).traceback ≡ old
+old_traceback : (os : List FilePart) (old : List ℕ) → (kept_files_of os old).traceback ≡ old
 old_traceback [] old = refl
 old_traceback (o ∷ os) old = refl
 
@@ -137,25 +137,25 @@ by t files name bytes =
 
 push_bytes : (ps : List FilePart) (p : FilePart) (t : Bool) → is_traceback p.name ≡ t → files_by (ps ++ p ∷ []) ≡ with_bytes (files_by ps) p.name p.bytes
 push_bytes ps p true is =
-    let others : others_in (ps ++ p ∷ []) ≡ others_in ps =
-    filter_push (λ p. not (is_traceback p.name)) ps p ∙ ap (λ b. others_in ps ++ cond (not b) (p ∷ []) []) is ∙ append_none (others_in ps) in
+    let others : other_files_in (ps ++ p ∷ []) ≡ other_files_in ps =
+    filter_push (λ p. not (is_traceback p.name)) ps p ∙ ap (λ b. other_files_in ps ++ cond (not b) (p ∷ []) []) is ∙ append_none (other_files_in ps) in
     let tracebacks : tracebacks_in (ps ++ p ∷ []) ≡ tracebacks_in ps ++ p ∷ [] =
     filter_push (λ p. is_traceback p.name) ps p ∙ ap (λ b. tracebacks_in ps ++ cond b (p ∷ []) []) is in
     let bytes : traceback_of (ps ++ p ∷ []) ≡ take text_limit ((files_by ps).traceback ++ p.bytes) =
     ap (λ l. take text_limit (flat_map (λ p. p.bytes) l)) tracebacks ∙ ap (take text_limit) (bytes_push (tracebacks_in ps) p)
     ∙ sym (take_again text_limit (flat_map (λ p. p.bytes) (tracebacks_in ps)) p.bytes)
-    ∙ ap (λ l. take text_limit (l ++ p.bytes)) (sym (old_traceback (others_in ps) (traceback_of ps))) in
-    (λ i. kept_of (others i) (bytes i)) ∙ other_traceback (others_in ps) (traceback_of ps) (take text_limit ((files_by ps).traceback ++ p.bytes))
+    ∙ ap (λ l. take text_limit (l ++ p.bytes)) (sym (old_traceback (other_files_in ps) (traceback_of ps))) in
+    (λ i. kept_files_of (others i) (bytes i)) ∙ other_traceback (other_files_in ps) (traceback_of ps) (take text_limit ((files_by ps).traceback ++ p.bytes))
     ∙ sym (ap (λ t. by t (files_by ps) p.name p.bytes) is)
 push_bytes ps p false is =
-    let others : others_in (ps ++ p ∷ []) ≡ others_in ps ++ p ∷ [] =
-    filter_push (λ p. not (is_traceback p.name)) ps p ∙ ap (λ b. others_in ps ++ cond (not b) (p ∷ []) []) is in
+    let others : other_files_in (ps ++ p ∷ []) ≡ other_files_in ps ++ p ∷ [] =
+    filter_push (λ p. not (is_traceback p.name)) ps p ∙ ap (λ b. other_files_in ps ++ cond (not b) (p ∷ []) []) is in
     let tracebacks : tracebacks_in (ps ++ p ∷ []) ≡ tracebacks_in ps =
     filter_push (λ p. is_traceback p.name) ps p ∙ ap (λ b. tracebacks_in ps ++ cond b (p ∷ []) []) is ∙ append_none (tracebacks_in ps) in
-    (λ i. kept_of (others i) (take text_limit (flat_map (λ p. p.bytes) (tracebacks i)))) ∙ others_push (others_in ps) (traceback_of ps) p
+    (λ i. kept_files_of (others i) (take text_limit (flat_map (λ p. p.bytes) (tracebacks i)))) ∙ others_push (other_files_in ps) (traceback_of ps) p
     ∙ sym (ap (λ t. by t (files_by ps) p.name p.bytes) is)
 
-push_piece : (ps : List FilePart) (p : FilePart) (b : Bool) → has_bytes p.bytes ≡ b → files_by (ps ++ cond b (p ∷ []) []) ≡ cond b (with_bytes (files_by ps) p.name p.bytes) (files_by ps)
+push_piece : (ps : List FilePart) (p : FilePart) (b : Bool) → has_any_byte p.bytes ≡ b → files_by (ps ++ cond b (p ∷ []) []) ≡ cond b (with_bytes (files_by ps) p.name p.bytes) (files_by ps)
 push_piece ps p true some = push_bytes ps p (is_traceback p.name) refl
 push_piece ps p false none = ap files_by (append_none ps)
 
@@ -163,9 +163,9 @@ push_piece ps p false none = ap files_by (append_none ps)
 pub files_push : (part : List Event) (e : Event) → files_of (part ++ e ∷ []) ≡ with_piece (files_of part) (name_in e.file) (text_in e.mime e.file)
 unfolding files_of with_piece
 files_push part e =
-    let pieces : pieces_of (part ++ e ∷ []) ≡ pieces_of part ++ cond (has_bytes (text_in e.mime e.file)) (piece_in e ∷ []) [] =
-    ap (filter (λ p. has_bytes p.bytes)) (map_push part e) ∙ filter_push (λ p. has_bytes p.bytes) (map piece_in part) (piece_in e) in
-    ap files_by pieces ∙ push_piece (pieces_of part) (piece_in e) (has_bytes (text_in e.mime e.file)) refl
+    let pieces : text_pieces_of (part ++ e ∷ []) ≡ text_pieces_of part ++ cond (has_any_byte (text_in e.mime e.file)) (piece_in e ∷ []) [] =
+    ap (filter (λ p. has_any_byte p.bytes)) (map_push part e) ∙ filter_push (λ p. has_any_byte p.bytes) (map piece_in part) (piece_in e) in
+    ap files_by pieces ∙ push_piece (text_pieces_of part) (piece_in e) (has_any_byte (text_in e.mime e.file)) refl
 
 pub files_none : files_of [] ≡ no_files
 unfolding files_of
@@ -210,10 +210,10 @@ module _ (first : List ℕ) (later : Option (List ℕ)) (others traceback name a
       ∙ (λ i. record { first = Some first; later = later; others = cut i; traceback = traceback })
       ∙ sym (ap (λ s. step s (a ++ b)) is)
   twice false is =
-      let kept = take text_limit (others ++ end_of others ++ head_of name ++ a) in
-      let cut : take text_limit (kept ++ b) ≡ take text_limit (others ++ end_of others ++ head_of name ++ (a ++ b)) =
-      take_again text_limit (others ++ end_of others ++ head_of name ++ a) b
-      ∙ ap (take text_limit) (append_assoc (others ++ end_of others ++ head_of name) a b) in
+      let kept = take text_limit (others ++ frame_end others ++ frame_head name ++ a) in
+      let cut : take text_limit (kept ++ b) ≡ take text_limit (others ++ frame_end others ++ frame_head name ++ (a ++ b)) =
+      take_again text_limit (others ++ frame_end others ++ frame_head name ++ a) b
+      ∙ ap (take text_limit) (append_assoc (others ++ frame_end others ++ frame_head name) a b) in
       ap (λ s. by false (step s a) name b) is
       ∙ ap (λ s. cond s (goes_on first (Some name) kept traceback b) (begins first kept traceback name b)) (same_name name)
       ∙ (λ i. record { first = Some first; later = Some name; others = cut i; traceback = traceback })

@@ -19,13 +19,13 @@ use Rattle.outcome_fold.specs.declared.part.Started.{Started}
 use Rattle.outcome_fold.specs.Order.{test_cmp, table}
 use Rattle.outcome_fold.specs.Parts.{test_of, events_of_test, ended_by, instant, elapsed, is_text_type, text_in, reason_in, reason_limit, last_part}
 use Rattle.outcome_fold.specs.Files.{name_in, with_piece}
-use Rattle.outcome_fold.specs.Rows.{row_of, completed_row, completed_behind, is_part, open_tests, open_rows, by_route, rows_of}
+use Rattle.outcome_fold.specs.Rows.{row_of, completed_row, completed_behind, has_events, open_tests, open_rows, by_route, rows_of}
 use Rattle.outcome_fold.specs.Started.{after, fresh, open_table}
 use Rattle.outcome_fold.specs.Folded.{extended, row_at}
 use Rattle.outcome_fold.specs.Routes.{SaySame}
 use Rattle.outcome_fold.proofs.OrderLemmas.{tests_total, exact_tests}
 use Rattle.outcome_fold.proofs.TableLemmas.{get-table}
-use Rattle.outcome_fold.proofs.FoldLemmas.{append_none, among_open, part_at, said, get-open_table}
+use Rattle.outcome_fold.proofs.FoldLemmas.{append_none, among_open, part_of_test, said_of_part, get-open_table}
 use Rattle.outcome_fold.proofs.OpenLemmas.{remove_insert}
 use Rattle.outcome_fold.proofs.RouteLemmas.{same_says}
 use Rattle.outcome_fold.proofs.FileLemmas.{piece_twice}
@@ -89,15 +89,15 @@ tables_behind seen others (e ∷ es) same =
 abbrev open_by : TestKey → Option Started → Option Row
 open_by test s = option_map (row_at test how.Open None) s
 
-open_of : (test : TestKey) (part : List Event) → cond (is_part part) (Some (row_of test how.Open None part)) None ≡ open_by test (said part)
+open_of : (test : TestKey) (part : List Event) → cond (has_events part) (Some (row_of test how.Open None part)) None ≡ open_by test (said_of_part part)
 open_of test [] = refl
 open_of test (e ∷ es) = refl
 
 get-open : (seen : List Event) (test : TestKey) → fin.get (table {R = test_cmp} (λ test. row_of test how.Open None (last_part (events_of_test test seen))) (open_tests seen)) test ≡ open_by test (fin.get (open_table seen) test)
 get-open seen test =
     get-table tests_total exact_tests (λ test. row_of test how.Open None (last_part (events_of_test test seen))) (open_tests seen) test
-    ∙ ap (λ b. cond b (Some (row_of test how.Open None (part_at seen test))) None) (among_open seen test)
-    ∙ open_of test (part_at seen test)
+    ∙ ap (λ b. cond b (Some (row_of test how.Open None (part_of_test seen test))) None) (among_open seen test)
+    ∙ open_of test (part_of_test seen test)
     ∙ ap (open_by test) (sym (get-open_table seen test))
 
 same_open : (seen others : List Event) → open_table seen ≡ open_table others → open_rows seen ≡ open_rows others

@@ -15,7 +15,7 @@ use Rattle.outcome_fold.specs.declared.row.Ended.TheVariants as ended
 use Rattle.outcome_fold.specs.declared.test_key.TestKey.{TestKey}
 use Rattle.outcome_fold.specs.declared.row.Row.{Row}
 use Rattle.outcome_fold.specs.Order.{route_cmp, test_cmp, table}
-use Rattle.outcome_fold.specs.Parts.{test_of, speaks_of, events_of_test, ended_by, completes, last_part}
+use Rattle.outcome_fold.specs.Parts.{test_of, speaks_of, events_of_test, ended_by, has_end_status, last_part}
 use Rattle.outcome_fold.specs.Rows.{row_of, row_completing, completed_behind, completed_rows, open_tests, open_rows, is_open, is_under, is_row_of, by_route, rows_of}
 use Rattle.outcome_fold.specs.Grouped.{group_table}
 use Rattle.outcome_fold.proofs.OrderLemmas.{routes_total, exact_routes, tests_total, exact_tests}
@@ -61,22 +61,22 @@ as_many es kind =
 
 -- ---- the rows of one test
 
-one_event : (test : TestKey) (seen : List Event) (e : Event) (t : Option TestKey) (how : Option Ended) (rest : List Event) (n : ℕ) → ended_by e.status ≡ how → n ≡ total (counted completes) rest → total (counted (is_row_of test)) (option_to_list (row_completing t how seen e)) + n ≡ total (counted completes) (cond (speaks_of test t) (e ∷ rest) rest)
+one_event : (test : TestKey) (seen : List Event) (e : Event) (t : Option TestKey) (how : Option Ended) (rest : List Event) (n : ℕ) → ended_by e.status ≡ how → n ≡ total (counted has_end_status) rest → total (counted (is_row_of test)) (option_to_list (row_completing t how seen e)) + n ≡ total (counted has_end_status) (cond (speaks_of test t) (e ∷ rest) rest)
 one_event test seen e None how rest n ends is = omega (arith, is)
 one_event test seen e (Some t) None rest n ends is =
-    let goes : counted completes e ≡ 0 = ap (λ (o : Option Ended). cond {A = ℕ} (is_some o) 1 0) ends in
-    elim (eq_by_cmp test_cmp test t) as (λ b. 0 + n ≡ total (counted completes) (cond b (e ∷ rest) rest)) [
+    let goes : counted has_end_status e ≡ 0 = ap (λ (o : Option Ended). cond {A = ℕ} (is_some o) 1 0) ends in
+    elim (eq_by_cmp test_cmp test t) as (λ b. 0 + n ≡ total (counted has_end_status) (cond b (e ∷ rest) rest)) [
       | true ↦ omega (arith, is, goes)
       | false ↦ omega (arith, is)
     ]
 one_event test seen e (Some t) (Some how) rest n ends is =
-    let done : counted completes e ≡ 1 = ap (λ (o : Option Ended). cond {A = ℕ} (is_some o) 1 0) ends in
-    elim (eq_by_cmp test_cmp test t) as (λ b. (cond b 1 0 + 0) + n ≡ total (counted completes) (cond b (e ∷ rest) rest)) [
+    let done : counted has_end_status e ≡ 1 = ap (λ (o : Option Ended). cond {A = ℕ} (is_some o) 1 0) ends in
+    elim (eq_by_cmp test_cmp test t) as (λ b. (cond b 1 0 + 0) + n ≡ total (counted has_end_status) (cond b (e ∷ rest) rest)) [
       | true ↦ omega (arith, is, done)
       | false ↦ omega (arith, is)
     ]
 
-completed_count : (test : TestKey) (seen es : List Event) → total (counted (is_row_of test)) (completed_behind seen es) ≡ total (counted completes) (events_of_test test es)
+completed_count : (test : TestKey) (seen es : List Event) → total (counted (is_row_of test)) (completed_behind seen es) ≡ total (counted has_end_status) (events_of_test test es)
 completed_count test seen [] = refl
 completed_count test seen (e ∷ es) =
     total_append (counted (is_row_of test)) (option_to_list (row_completing (test_of e) (ended_by e.status) seen e)) (completed_behind (seen ++ e ∷ []) es)
@@ -110,12 +110,12 @@ open_count test part (k ∷ ks) =
     (ap (λ n. total f (fin.values (fin.insert m k (row k))) + n) (sym at) ∙ put ∙ ap (λ n. n + f (row k)) before)
     (λ tie. ap (λ (q : TestKey). list_any (eq_by_cmp test_cmp q) ks) (sym (tied_is exact_tests test k tie)))
 
-pub parts_count : (es : List Event) (test : TestKey) → count_by (is_row_of test) (rows_of es) ≡ count_by completes (events_of_test test es) + cond (is_open es test) 1 0
+pub parts_count : (es : List Event) (test : TestKey) → count_by (is_row_of test) (rows_of es) ≡ count_by has_end_status (events_of_test test es) + cond (is_open es test) 1 0
 parts_count es test =
     let f : Row → ℕ = counted (is_row_of test) in
-    let done : total f (completed_rows es) ≡ total (counted completes) (events_of_test test es) = completed_count test [] es in
+    let done : total f (completed_rows es) ≡ total (counted has_end_status) (events_of_test test es) = completed_count test [] es in
     let left : total f (open_rows es) ≡ cond (is_open es test) 1 0 = open_count test (λ t. last_part (events_of_test t es)) (open_tests es) ∙ ap (λ b. cond b 1 0) (among_open es test) in
-    total_is f (rows_of es) ∙ total_by_route f (completed_rows es ++ open_rows es) ∙ omega (arith, total_append f (completed_rows es) (open_rows es), done, left, total_is (counted completes) (events_of_test test es))
+    total_is f (rows_of es) ∙ total_by_route f (completed_rows es ++ open_rows es) ∙ omega (arith, total_append f (completed_rows es) (open_rows es), done, left, total_is (counted has_end_status) (events_of_test test es))
 
 -- ---- each row is there
 

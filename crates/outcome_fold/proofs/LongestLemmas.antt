@@ -14,8 +14,8 @@ use Rattle.outcome_fold.specs.Order.{text_cmp}
 use Rattle.outcome_fold.proofs.OrderLemmas.{texts_total, exact_texts}
 use Rattle.outcome_fold.proofs.TableLemmas.{inserted, lookup_in_map}
 
-abbrev Times : Type 0
-Times = List (List ℕ × ℕ)
+abbrev TimedIds : Type 0
+TimedIds = List (List ℕ × ℕ)
 
 -- the time of an id that has none yet is longer than none
 or_none : (found : Option ℕ) (nanos : ℕ) → max nanos (unwrap_or found nanos) ≡ max nanos (unwrap_or found 0)
@@ -23,7 +23,7 @@ or_none None nanos = omega arith
 or_none (Some time) nanos = refl
 
 -- a longer time that is written to the one that was found, or that was put there
-pub raised : (old new : Times) (id : List ℕ) (found : Option ℕ) (before now nanos : ℕ) → ((q : List ℕ) → lookup (is_at (text_cmp q)) new ≡ cond (is_at (text_cmp id) q) (Some now) (lookup (is_at (text_cmp q)) old)) → found ≡ lookup (is_at (text_cmp id)) old → before ≡ unwrap_or found nanos → now ≡ max nanos before
+pub raised : (old new : TimedIds) (id : List ℕ) (found : Option ℕ) (before now nanos : ℕ) → ((q : List ℕ) → lookup (is_at (text_cmp q)) new ≡ cond (is_at (text_cmp id) q) (Some now) (lookup (is_at (text_cmp q)) old)) → found ≡ lookup (is_at (text_cmp id)) old → before ≡ unwrap_or found nanos → now ≡ max nanos before
     → fin.from_entries {R = text_cmp} new ≡ fin.insert (fin.from_entries old) id (max nanos (unwrap_or (fin.get (fin.from_entries {R = text_cmp} old) id) 0))
 raised old new id found before now nanos updates is before_is now_is =
     inserted texts_total exact_texts old new id now updates

@@ -22,8 +22,8 @@ abbrev Entries : Type 0
 Entries = List (TestKey × Started)
 
 -- the new entries have this at the test, and else what the old ones have
-abbrev pub Writes : Entries → Entries → TestKey → Started → Type 0
-Writes old new t s = (q : TestKey) → lookup (is_at (test_cmp q)) new ≡ cond (is_at (test_cmp t) q) (Some s) (lookup (is_at (test_cmp q)) old)
+abbrev pub WritesEntry : Entries → Entries → TestKey → Started → Type 0
+WritesEntry old new t s = (q : TestKey) → lookup (is_at (test_cmp q)) new ≡ cond (is_at (test_cmp t) q) (Some s) (lookup (is_at (test_cmp q)) old)
 
 same_at : (m : Open) (t q : TestKey) (s : Started) (b : Bool) → eq_by_cmp test_cmp q t ≡ b → fin.get m t ≡ Some s → cond b (Some s) (fin.get m q) ≡ fin.get m q
 same_at m t q s true tie is = sym is ∙ ap (fin.get m) (sym (tied_is exact_tests q t tie))
@@ -56,14 +56,14 @@ pub no_others : (es : Entries) (t : TestKey) → length es ≡ 0 → fin.get (fi
 no_others es t none = sym (lookup_in_map tests_total t es) ∙ ap (lookup (is_at (test_cmp t))) (none_of_length es none)
 
 -- a part that took an event where it stands
-pub taken_through : (old new : Entries) (t : TestKey) (part next : Started) (e : Said) → Writes old new t next → Some part ≡ lookup (is_at (test_cmp t)) old → next ≡ after_said part e → fin.from_entries {R = test_cmp} new ≡ with_extended (fin.from_entries {R = test_cmp} old) t e
+pub taken_through : (old new : Entries) (t : TestKey) (part next : Started) (e : Said) → WritesEntry old new t next → Some part ≡ lookup (is_at (test_cmp t)) old → next ≡ after_said part e → fin.from_entries {R = test_cmp} new ≡ with_extended (fin.from_entries {R = test_cmp} old) t e
 taken_through old new t part next e writes is taken =
     let m : Open = fin.from_entries {R = test_cmp} old in
     inserted tests_total exact_tests old new t next writes ∙ ap (fin.insert m t) taken
     ∙ ap (λ (o : Option Started). cond (is_some o) (fin.insert m t (extended_by o e)) m) (sym (found old t part is))
 
 -- a part that stayed as it was
-pub kept_through : (old new : Entries) (t : TestKey) (part next : Started) → Writes old new t next → Some part ≡ lookup (is_at (test_cmp t)) old → next ≡ part → fin.from_entries {R = test_cmp} new ≡ fin.from_entries {R = test_cmp} old
+pub kept_through : (old new : Entries) (t : TestKey) (part next : Started) → WritesEntry old new t next → Some part ≡ lookup (is_at (test_cmp t)) old → next ≡ part → fin.from_entries {R = test_cmp} new ≡ fin.from_entries {R = test_cmp} old
 kept_through old new t part next writes is same =
     inserted tests_total exact_tests old new t next writes ∙ ap (fin.insert (fin.from_entries {R = test_cmp} old) t) same
     ∙ insert_same (fin.from_entries {R = test_cmp} old) t part (found old t part is)

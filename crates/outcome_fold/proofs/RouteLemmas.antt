@@ -15,7 +15,7 @@ use Rattle.outcome_fold.specs.declared.test_key.TestKey.{TestKey}
 use Rattle.outcome_fold.specs.declared.row.Row.{Row}
 use Rattle.outcome_fold.specs.Order.{route_cmp, test_cmp, table}
 use Rattle.outcome_fold.specs.Parts.{test_of, speaks_of, events_of_test, ended_by, instant, start_of, elapsed, last_part}
-use Rattle.outcome_fold.specs.Rows.{row_of, row_completing, completed_row, completed_behind, completed_rows, is_part, open_tests, open_rows, is_under, by_route, rows_of}
+use Rattle.outcome_fold.specs.Rows.{row_of, row_completing, completed_row, completed_behind, completed_rows, has_events, open_tests, open_rows, is_under, by_route, rows_of}
 use Rattle.outcome_fold.specs.Grouped.{group_table, joined_groups}
 use Rattle.outcome_fold.specs.Answers.{failing_of, passed_of, times_of, seen_tags_of, counts_of, status_of}
 use Rattle.outcome_fold.specs.Routes.{is_of_route, of_route, AgreeByRoute, SaySame}
@@ -59,7 +59,7 @@ same_events events others agree test = sym (events_at_route test events) ∙ ap 
 -- ---- the open rows
 
 abbrev open_at : TestKey → List Event → Option Row
-open_at test part = cond (is_part part) (Some (row_of test how.Open None part)) None
+open_at test part = cond (has_events part) (Some (row_of test how.Open None part)) None
 
 abbrev open_row : List Event → TestKey → Row
 open_row events test = row_of test how.Open None (last_part (events_of_test test events))

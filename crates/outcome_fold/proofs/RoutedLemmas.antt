@@ -17,7 +17,7 @@ use Rattle.outcome_fold.specs.declared.summary.Summary.{Summary}
 use Rattle.outcome_fold.specs.Order.{text_cmp, route_cmp, table, in_byte_order}
 use Rattle.outcome_fold.specs.Rows.{is_under, by_route}
 use Rattle.outcome_fold.specs.Grouped.{group_table, joined_groups}
-use Rattle.outcome_fold.specs.Answers.{row_fails, is_run, passes, is_skipped, ids_of, longest, longest_times, timed_rows, is_counted, counted_rows, counts_in}
+use Rattle.outcome_fold.specs.Answers.{row_fails, is_run, row_passes, is_skipped, ids_of, longest, longest_times, timed_rows, is_counted, counted_rows, counts_in}
 use Rattle.outcome_fold.specs.Summed.{is_untimed, Sums}
 use Rattle.outcome_fold.proofs.OrderLemmas.{routes_total, exact_routes, texts_total, exact_texts}
 use Rattle.outcome_fold.proofs.TableLemmas.{none_of_length, get-table, tied_is}
@@ -68,7 +68,7 @@ abbrev AreBehind : Row → Bool → List Row → Type 0
 AreBehind row answer others = All (λ other. is_behind row other ≡ answer) others
 
 -- one row more, which comes behind those of the routes up to its own, and before the others
-record IsPut (row : Row) (old new : List Row) : Type 0 where
+record IsPutByRoute (row : Row) (old new : List Row) : Type 0 where
   first : List Row
   last : List Row
   old_is : old ≡ first ++ last
@@ -100,7 +100,7 @@ before_all row route (e ∷ es) higher below grouped =
     let rest = before_all row route es higher parts.1 grouped.1 in
     (ap (λ o. cond (is_eq o) (Some e.1) (find route_cmp row.route es)) at ∙ rest.0, joins row true e.1 (joined es) (of_group row e.0 e.1 grouped.0 true (ap is_lt at)) rest.1)
 
-put_in_group : (row : Row) (group : List Row) (es : Entries) → group ≡ unwrap_or (find route_cmp row.route es) [] → T (is_sorted route_cmp es) → Grouped es → IsPut row (joined es) (joined (put route_cmp row.route (group ++ row ∷ []) es))
+put_in_group : (row : Row) (group : List Row) (es : Entries) → group ≡ unwrap_or (find route_cmp row.route es) [] → T (is_sorted route_cmp es) → Grouped es → IsPutByRoute row (joined es) (joined (put route_cmp row.route (group ++ row ∷ []) es))
 put_in_group row group [] is sorted grouped = record {
   first = [];
   last = [];
@@ -113,7 +113,7 @@ put_in_group row group (e ∷ es) is sorted grouped =
     let parts = both (below_all route_cmp e.0 es) (is_sorted route_cmp es) sorted in
     let of_first = of_group row e.0 e.1 grouped.0 in
     elim (route_cmp row.route e.0) as (λ o. route_cmp row.route e.0 ≡ o → group ≡ unwrap_or (cond (is_eq o) (Some e.1) (find route_cmp row.route es)) []
-    → IsPut row (e.1 ++ joined es) (joined (by_order o ((row.route, group ++ row ∷ []) ∷ e ∷ es) ((e.0, group ++ row ∷ []) ∷ es) (e ∷ put route_cmp row.route (group ++ row ∷ []) es)))) [
+    → IsPutByRoute row (e.1 ++ joined es) (joined (by_order o ((row.route, group ++ row ∷ []) ∷ e ∷ es) ((e.0, group ++ row ∷ []) ∷ es) (e ∷ put route_cmp row.route (group ++ row ∷ []) es)))) [
       | Less ↦ λ at is.
           let rest = before_all row e.0 es (λ r higher. routes_total.trans row.route e.0 r at higher) parts.0 grouped.1 in
           record {
@@ -144,11 +144,11 @@ put_in_group row group (e ∷ es) is sorted grouped =
           }
     ] refl is
 
-one_put : (rows : List Row) (row : Row) → IsPut row (by_route rows) (by_route (rows ++ row ∷ []))
+one_put : (rows : List Row) (row : Row) → IsPutByRoute row (by_route rows) (by_route (rows ++ row ∷ []))
 one_put rows row =
     let m = group_table rows in
     let group : List Row = unwrap_or (fin.get m row.route) [] in
-    subst (IsPut row (by_route rows)) (sym (ap joined_groups (group_table_push rows row) ∙ ap joined (entries-insert routes_total m row.route (group ++ row ∷ []))))
+    subst (IsPutByRoute row (by_route rows)) (sym (ap joined_groups (group_table_push rows row) ∙ ap joined (entries-insert routes_total m row.route (group ++ row ∷ []))))
     (put_in_group row group (fin.entries m) (ap (λ o. unwrap_or o []) (get-entries m row.route)) (entries_sorted m) (table_grouped rows (map (λ row. row.route) rows)))
 
 abbrev not_behind : Row → Row → Bool
@@ -158,7 +158,7 @@ turned : (row : Row) (answer : Bool) (others : List Row) → AreBehind row answe
 turned row answer others all = All-weaker (λ other. is_behind row other ≡ answer) (λ other. not_behind row other ≡ not answer) (λ other is. ap not is) others all
 
 -- there is one place for it
-put_there : (row : Row) (old new : List Row) → IsPut row old new → new ≡ filter (not_behind row) old ++ row ∷ filter (is_behind row) old
+put_there : (row : Row) (old new : List Row) → IsPutByRoute row old new → new ≡ filter (not_behind row) old ++ row ∷ filter (is_behind row) old
 put_there row old new is =
     let first : filter (not_behind row) old ≡ is.first = ap (filter (not_behind row)) is.old_is ∙ filter-append (not_behind row) is.first is.last
     ∙ (λ i. filter_all (not_behind row) is.first (turned row false is.first is.before) i ++ filter_none (not_behind row) is.last (turned row true is.last is.behind) i) ∙ append_none is.first in
@@ -180,7 +180,7 @@ no_rows = ap joined no_groups
 
 -- ---- the rows that pass a test
 
-put_passing : (p : Row → Bool) (row : Row) (old new : List Row) → IsPut row old new → p row ≡ true → IsPut row (filter p old) (filter p new)
+put_passing : (p : Row → Bool) (row : Row) (old new : List Row) → IsPutByRoute row old new → p row ≡ true → IsPutByRoute row (filter p old) (filter p new)
 put_passing p row old new is passes = record {
   first = filter p is.first;
   last = filter p is.last;
@@ -190,7 +190,7 @@ put_passing p row old new is passes = record {
   behind = All-filter p (λ other. is_behind row other ≡ true) is.last is.behind;
 }
 
-put_left_out : (p : Row → Bool) (row : Row) (old new : List Row) → IsPut row old new → p row ≡ false → filter p new ≡ filter p old
+put_left_out : (p : Row → Bool) (row : Row) (old new : List Row) → IsPutByRoute row old new → p row ≡ false → filter p new ≡ filter p old
 put_left_out p row old new is fails =
     ap (filter p) is.new_is ∙ filter-append p is.first (row ∷ is.last) ∙ ap (λ b. filter p is.first ++ cond b (row ∷ filter p is.last) (filter p is.last)) fails
     ∙ sym (ap (filter p) is.old_is ∙ filter-append p is.first is.last)
@@ -200,7 +200,7 @@ one_passing p rows row is = by_test (p row) refl ∙ ap by_route (sym (filter_pu
   where
     by_test : (b : Bool) → p row ≡ b → filter p (by_route (rows ++ row ∷ [])) ≡ by_route (filter p rows ++ cond b (row ∷ []) [])
     by_test true passes =
-        put_there row _ _ (subst (λ l. IsPut row l (filter p (by_route (rows ++ row ∷ [])))) is (put_passing p row _ _ (one_put rows row) passes))
+        put_there row _ _ (subst (λ l. IsPutByRoute row l (filter p (by_route (rows ++ row ∷ [])))) is (put_passing p row _ _ (one_put rows row) passes))
         ∙ sym (put_there row _ _ (one_put (filter p rows) row))
     by_test false fails = put_left_out p row _ _ (one_put rows row) fails ∙ is ∙ ap by_route (sym (append_none (filter p rows)))
 
@@ -209,7 +209,7 @@ passing_by_route p rows = row_by_row (λ rows. filter p (by_route rows) ≡ by_r
 
 -- ---- the same rows
 
-put_moves : (row : Row) (old new : List Row) → IsPut row old new → IsPermutation (row ∷ old) new
+put_moves : (row : Row) (old new : List Row) → IsPutByRoute row old new → IsPermutation (row ∷ old) new
 put_moves row old new is = subst (λ (l : List Row × List Row). IsPermutation (row ∷ l.0) l.1) (λ i. (sym is.old_is i, sym is.new_is i)) (IsPermutation-sym _ _ (IsPermutation-middle is.first row is.last))
 
 moved : (rows : List Row) → IsPermutation rows (by_route rows)
@@ -220,7 +220,7 @@ same_counts : (rows : List Row) → counts_in (by_route rows) ≡ counts_in rows
 same_counts rows =
     let same : IsPermutation rows (by_route rows) = moved rows in
     let total = length_permutation rows (by_route rows) same in
-    let passed = sum_by-IsPermutation (λ row. cond (passes row) 1 0) rows (by_route rows) same in
+    let passed = sum_by-IsPermutation (λ row. cond (row_passes row) 1 0) rows (by_route rows) same in
     let failed = sum_by-IsPermutation (λ row. cond (row_fails row) 1 0) rows (by_route rows) same in
     let skipped = sum_by-IsPermutation (λ row. cond (is_skipped row) 1 0) rows (by_route rows) same in
     let timed = sym (list_any-IsPermutation (λ row. is_some row.nanos) rows (by_route rows) same) in

@@ -8,16 +8,16 @@ use Rattle.outcome_fold.specs.declared.part.Started.{Started}
 use Rattle.outcome_fold.specs.declared.part.Said.{Said}
 use Rattle.outcome_fold.specs.Parts.{test_of, text_by, text_in, reason_by, reason_in, reason_limit}
 use Rattle.outcome_fold.specs.Files.{name_in, no_files, with_piece}
-use Rattle.outcome_fold.specs.Started.{after, Says, fresh_said, after_said}
+use Rattle.outcome_fold.specs.Started.{after, IsSaidBy, fresh_said, after_said}
 use Rattle.outcome_fold.specs.Folded.{extended, extended_by}
 
-said_is : (s : Started) (said : Said) (e : Event) → Says said e → after_said s said ≡ after s e
+said_is : (s : Started) (said : Said) (e : Event) → IsSaidBy said e → after_said s said ≡ after s e
 said_is s said e says =
     let tags = ap (λ (t : Option (List (List ℕ))). unwrap_or t s.tags) says.tags in
     let reason = ap (λ (t : List ℕ). take reason_limit (s.reason ++ t)) says.reason in
     λ i. record { start = s.start; tags = tags i; files = with_piece s.files (says.name i) (says.text i); reason = reason i }
 
-pub extended_is : (o : Option Started) (said : Said) (e : Event) → Says said e → extended_by o said ≡ extended o e
+pub extended_is : (o : Option Started) (said : Said) (e : Event) → IsSaidBy said e → extended_by o said ≡ extended o e
 extended_is None said e says =
     said_is (fresh_said said) said e says
     ∙ ap (λ (start : Option ℕ). after (record { start = start; tags = []; files = no_files; reason = [] }) e) says.instant

@@ -6,7 +6,7 @@ use Rattle.packet_codec.specs.declared.event.Event.{Event}
 use Rattle.outcome_fold.specs.declared.row.Row.{Row}
 use Rattle.outcome_fold.specs.declared.fold.Fold.{Fold}
 use Rattle.outcome_fold.specs.declared.summary.Summary.{Summary}
-use Rattle.outcome_fold.specs.declared.summing.Summing.{Summing}
+use Rattle.outcome_fold.specs.declared.row_sums.RowSums.{RowSums}
 use Rattle.outcome_fold.specs.Folded.{HasSeen}
 use Rattle.outcome_fold.specs.Rows.{completed_row, completed_rows}
 use Rattle.outcome_fold.specs.Summed.{Sums, HasSummed}
@@ -14,8 +14,8 @@ use Rattle.outcome_fold.proofs.FoldLemmas.{append_none}
 use Rattle.outcome_fold.proofs.OutcomeLemmas.{completed_none, completed_some}
 use Rattle.outcome_fold.proofs.SummedLemmas.{same_sums}
 
-module _ (filter_tags : List (List ℕ)) (seen : List Event) (e : Event) (old : Summing) (fold : Fold) (has : HasSummed filter_tags old seen) (started : HasSeen fold (seen ++ e ∷ [])) where
-  abbrev next : Summary → Summing
+module _ (filter_tags : List (List ℕ)) (seen : List Event) (e : Event) (old : RowSums) (fold : Fold) (has : HasSummed filter_tags old seen) (started : HasSeen fold (seen ++ e ∷ [])) where
+  abbrev next : Summary → RowSums
   next summary = record { alloc = old.alloc; filter_tags = old.filter_tags; fold = fold; summary = summary }
 
   -- an event that completes no row

@@ -93,14 +93,14 @@ is_skipped row = is_skip row.ended
 
 -- the row neither fails nor was skipped, as that of a success or of a failure that was expected; asked only of rows that
 -- are counted
-abbrev pub passes : Row → Bool
-passes row = not (row_fails row || is_skipped row)
+abbrev pub row_passes : Row → Bool
+row_passes row = not (row_fails row || is_skipped row)
 
 -- how many rows these are, how many of them pass, fail and were skipped, and the sum of their times
 abbrev pub counts_in : List Row → Counts
 counts_in rows = record {
   total = length rows;
-  passed = count_by passes rows;
+  passed = count_by row_passes rows;
   failed = count_by row_fails rows;
   skipped = count_by is_skipped rows;
   nanos = total_time rows;

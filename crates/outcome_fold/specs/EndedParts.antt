@@ -13,7 +13,7 @@ use Rattle.outcome_fold.specs.Order.{test_cmp, table}
 use Rattle.outcome_fold.specs.Parts.{test_of, events_of_test, ended_by, last_part, instant, elapsed}
 use Rattle.outcome_fold.specs.Rows.{part_with, open_tests}
 use Rattle.outcome_fold.specs.Started.{started_of}
-use Rattle.outcome_fold.specs.Folded.{row_at, text_at}
+use Rattle.outcome_fold.specs.Folded.{row_at, row_text}
 
 -- what the part says that the event completes, by the test it speaks of and how it ends it
 abbrev pub part_completing : Option TestKey → Option Ended → List Event → Event → Option EndedPart
@@ -41,4 +41,4 @@ row_of_part p = row_at p.key p.ended (elapsed p.started.start p.end) p.started
 -- the text of the row of the part, where there is one
 abbrev pub text_told : Option EndedPart → List ℕ
 text_told None = []
-text_told (Some p) = text_at p.ended p.started.files
+text_told (Some p) = row_text p.ended p.started.files

@@ -19,12 +19,12 @@ abbrev pub piece_in : Event → FilePart
 piece_in e = record { name = name_in e.file; bytes = text_in e.mime e.file }
 
 -- there is at least one byte
-abbrev pub has_bytes : List ℕ → Bool
-has_bytes bytes = not (length bytes == 0)
+abbrev pub has_any_byte : List ℕ → Bool
+has_any_byte bytes = not (length bytes == 0)
 
 -- the pieces of the part's files of text that have bytes, in their order
-abbrev pub pieces_of : List Event → List FilePart
-pieces_of part = filter (λ p. has_bytes p.bytes) (map piece_in part)
+abbrev pub text_pieces_of : List Event → List FilePart
+text_pieces_of part = filter (λ p. has_any_byte p.bytes) (map piece_in part)
 
 -- the file of this name says how the test failed
 abbrev pub is_traceback : List ℕ → Bool
@@ -35,8 +35,8 @@ abbrev pub tracebacks_in : List FilePart → List FilePart
 tracebacks_in pieces = filter (λ p. is_traceback p.name) pieces
 
 -- the pieces of all other files, in their order
-abbrev pub others_in : List FilePart → List FilePart
-others_in pieces = filter (λ p. not (is_traceback p.name)) pieces
+abbrev pub other_files_in : List FilePart → List FilePart
+other_files_in pieces = filter (λ p. not (is_traceback p.name)) pieces
 
 -- How a file stands that is not alone.
 
@@ -49,16 +49,16 @@ abbrev pub in_lines : List ℕ → List ℕ
 in_lines text = text ++ (if ends_line text then [] else codes "\n")
 
 -- the line before a file of this name
-abbrev pub head_of : List ℕ → List ℕ
-head_of name = name ++ codes ": {{{\n"
+abbrev pub frame_head : List ℕ → List ℕ
+frame_head name = name ++ codes ": {{{\n"
 
 -- what stands behind a file's bytes: the end of their last line where it has none, and a line
-abbrev pub end_of : List ℕ → List ℕ
-end_of text = if ends_line text then codes "}}}\n" else codes "\n}}}\n"
+abbrev pub frame_end : List ℕ → List ℕ
+frame_end text = if ends_line text then codes "}}}\n" else codes "\n}}}\n"
 
 -- what stands between this text, whose file has this name, and a piece of the file of the next name
 abbrev pub between : List ℕ → List ℕ → List ℕ → List ℕ
-between name text next = if bytes_eq name next then [] else end_of text ++ head_of next
+between name text next = if bytes_eq name next then [] else frame_end text ++ frame_head next
 
 -- this text, whose file has this name, and behind it the pieces: those of one name that follow one another are one file
 abbrev pub run_on : List ℕ → List ℕ → List FilePart → List ℕ
@@ -77,9 +77,9 @@ last_name name [] = name
 last_name name (p ∷ ps) = last_name p.name ps
 
 -- what is kept where these are the pieces of the files but the traceback, and this is the traceback
-abbrev pub kept_of : List FilePart → List ℕ → KeptFiles
-kept_of [] traceback = record { first = None; later = None; others = []; traceback = traceback }
-kept_of (p ∷ ps) traceback = record {
+abbrev pub kept_files_of : List FilePart → List ℕ → KeptFiles
+kept_files_of [] traceback = record { first = None; later = None; others = []; traceback = traceback }
+kept_files_of (p ∷ ps) traceback = record {
   first = Some p.name;
   later = if are_one_file p.name ps then None else Some (last_name p.name ps);
   others = take text_limit (run_on p.name p.bytes ps);
@@ -89,11 +89,11 @@ kept_of (p ∷ ps) traceback = record {
 -- what is kept of these pieces: of the traceback the first bytes, and of the other files the first bytes of their joined
 -- text
 abbrev pub files_by : List FilePart → KeptFiles
-files_by pieces = kept_of (others_in pieces) (take text_limit (flat_map (λ p. p.bytes) (tracebacks_in pieces)))
+files_by pieces = kept_files_of (other_files_in pieces) (take text_limit (flat_map (λ p. p.bytes) (tracebacks_in pieces)))
 
 -- what is kept of the part's files of text
 unfoldable pub files_of : List Event → KeptFiles
-files_of part = files_by (pieces_of part)
+files_of part = files_by (text_pieces_of part)
 
 -- no files
 abbrev pub no_files : KeptFiles
@@ -103,13 +103,13 @@ no_files = record { first = None; later = None; others = []; traceback = [] }
 
 -- several files but the traceback, of which the first has this name
 abbrev pub framed : List ℕ → List ℕ → List ℕ
-framed first others = in_lines (take text_limit (head_of first ++ others ++ end_of others))
+framed first others = in_lines (take text_limit (frame_head first ++ others ++ frame_end others))
 
 -- the text that shows what is kept: the names of the first other file and of a later one, the bytes of the others, and
 -- the traceback
 abbrev pub shown_by : Option (List ℕ) → Option (List ℕ) → List ℕ → List ℕ → List ℕ
 shown_by None later others traceback = traceback
-shown_by (Some first) later others traceback = if is_some later || has_bytes traceback then framed first others ++ traceback else others
+shown_by (Some first) later others traceback = if is_some later || has_any_byte traceback then framed first others ++ traceback else others
 
 -- a file that is alone as it stands, and else each under its name and the traceback behind them
 unfoldable pub text_shown : KeptFiles → List ℕ
@@ -132,7 +132,7 @@ with_other None later others traceback name bytes = record { first = Some name; 
 with_other (Some first) later others traceback name bytes =
     if is_current first later name
     then record { first = Some first; later = later; others = take text_limit (others ++ bytes); traceback = traceback }
-    else record { first = Some first; later = Some name; others = take text_limit (others ++ end_of others ++ head_of name ++ bytes); traceback = traceback }
+    else record { first = Some first; later = Some name; others = take text_limit (others ++ frame_end others ++ frame_head name ++ bytes); traceback = traceback }
 
 -- what is kept with a piece more of the file of this name, where the piece has bytes
 abbrev pub with_bytes : KeptFiles → List ℕ → List ℕ → KeptFiles
@@ -143,4 +143,4 @@ with_bytes files name bytes =
 
 -- what is kept with a piece more of the file of this name
 unfoldable pub with_piece : KeptFiles → List ℕ → List ℕ → KeptFiles
-with_piece files name bytes = if has_bytes bytes then with_bytes files name bytes else files
+with_piece files name bytes = if has_any_byte bytes then with_bytes files name bytes else files

@@ -13,14 +13,14 @@ use Rattle.outcome_fold.specs.declared.fold.Fold.{Fold}
 use Rattle.outcome_fold.specs.Order.{test_cmp, in_byte_order}
 use Rattle.outcome_fold.specs.Rows.{is_failure, is_skip}
 use Rattle.outcome_fold.specs.declared.part.Said.{Said}
-use Rattle.outcome_fold.specs.Parts.{test_of, ended_by, first_line}
+use Rattle.outcome_fold.specs.Parts.{test_of, ended_by, first_text_line}
 use Rattle.outcome_fold.specs.declared.files.KeptFiles.{KeptFiles}
 use Rattle.outcome_fold.specs.Files.{no_files, text_shown}
-use Rattle.outcome_fold.specs.Started.{fresh, after, open_table, Says, fresh_said, after_said}
+use Rattle.outcome_fold.specs.Started.{fresh, after, open_table, IsSaidBy, fresh_said, after_said}
 
 -- what the parts of the open tests say, by test, but for the one that is held
-abbrev pub others_in : Fold → FinMap test_cmp Started
-others_in fold = map.from_entries {R = test_cmp} fold.others.entries
+abbrev pub other_parts_in : Fold → FinMap test_cmp Started
+other_parts_in fold = map.from_entries {R = test_cmp} fold.others.entries
 
 -- the table with the part that is held put into it, where there is one
 abbrev pub with_held : Option Held → FinMap test_cmp Started → FinMap test_cmp Started
@@ -29,7 +29,7 @@ with_held (Some held) others = map.insert others held.key held.part
 
 -- what the parts of the open tests say, by test
 abbrev pub open_in : Fold → FinMap test_cmp Started
-open_in fold = with_held fold.held (others_in fold)
+open_in fold = with_held fold.held (other_parts_in fold)
 
 -- the fold has taken these events
 abbrev pub HasSeen : Fold → List Event → Type 0
@@ -53,7 +53,7 @@ with_extended kept test said = if is_some (map.get kept test) then map.insert ke
 pub record Speaks (e : Event) (test : TestKey) (how : Option Ended) (said : Said) : Type 0 where
   pub test_is : Some test ≡ test_of e
   pub how_is : how ≡ ended_by e.status
-  pub says : Says said e
+  pub says : IsSaidBy said e
 
 -- the files of text of the part of a test, which has none where it is not open
 abbrev pub files_in : Option Started → KeptFiles
@@ -61,17 +61,17 @@ files_in None = no_files
 files_in (Some s) = s.files
 
 -- a part that ended so gives a row that fails, and one that has not ended gives none
-abbrev pub fails_by : Option Ended → Bool
-fails_by None = false
-fails_by (Some how) = is_failure how
+abbrev pub is_failing_end : Option Ended → Bool
+is_failing_end None = false
+is_failing_end (Some how) = is_failure how
 
 -- an event of this status gives a row that fails, where it speaks of a test
 abbrev pub gives_failure : Status → Bool
-gives_failure status = fails_by (ended_by status)
+gives_failure status = is_failing_end (ended_by status)
 
 -- the text of the row of a part that ended so: that of its files where it fails, else none
-abbrev pub text_at : Ended → KeptFiles → List ℕ
-text_at how files = if is_failure how then text_shown files else []
+abbrev pub row_text : Ended → KeptFiles → List ℕ
+row_text how files = if is_failure how then text_shown files else []
 
 -- the row of a part that says this
 abbrev pub row_at : TestKey → Ended → Option ℕ → Started → Row
@@ -81,6 +81,6 @@ row_at test how nanos s = record {
   ended = how;
   tags = in_byte_order s.tags;
   nanos = nanos;
-  text = text_at how s.files;
-  reason = if is_skip how then first_line s.reason else [];
+  text = row_text how s.files;
+  reason = if is_skip how then first_text_line s.reason else [];
 }

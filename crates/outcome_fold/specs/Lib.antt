@@ -10,3 +10,4 @@ pub mod Outcome
 pub mod Summed
 pub mod Routes
 pub mod EndedParts
+pub mod TestPackets

@@ -39,13 +39,13 @@ ended_by status.Fail = Some ended.Fail
 ended_by status.XFail = Some ended.XFail
 
 -- the event has a status that ends a test; whether it has an id is not asked
-abbrev pub completes : Event → Bool
-completes e = is_some (ended_by e.status)
+abbrev pub has_end_status : Event → Bool
+has_end_status e = is_some (ended_by e.status)
 
 -- the last part of a test's events: those behind the last one that completes
 abbrev pub last_part : List Event → List Event
 last_part [] = []
-last_part (e ∷ es) = if list_any completes (e ∷ es) then last_part es else e ∷ es
+last_part (e ∷ es) = if list_any has_end_status (e ∷ es) then last_part es else e ∷ es
 
 -- in nanoseconds since 1970 in UTC
 abbrev pub instant : Stamp → ℕ
@@ -108,5 +108,5 @@ abbrev pub reason_of : List Event → List ℕ
 reason_of part = take reason_limit (flat_map (λ e. reason_in e.file) part)
 
 -- what stands before the first newline, or all of it
-abbrev pub first_line : List ℕ → List ℕ
-first_line bytes = take_while (λ byte. not (nat_eq byte 10)) bytes
+abbrev pub first_text_line : List ℕ → List ℕ
+first_text_line bytes = take_while (λ byte. not (nat_eq byte 10)) bytes

@@ -10,7 +10,7 @@ use Rattle.outcome_fold.specs.declared.row.Ended.TheVariants as ended
 use Rattle.outcome_fold.specs.declared.test_key.TestKey.{TestKey}
 use Rattle.outcome_fold.specs.declared.row.Row.{Row}
 use Rattle.outcome_fold.specs.Order.{route_cmp, test_cmp, table}
-use Rattle.outcome_fold.specs.Parts.{test_of, events_of_test, ended_by, last_part, instant, start_of, elapsed, tags_of, reason_of, first_line}
+use Rattle.outcome_fold.specs.Parts.{test_of, events_of_test, ended_by, last_part, instant, start_of, elapsed, tags_of, reason_of, first_text_line}
 use Rattle.outcome_fold.specs.Files.{text_of}
 
 -- a test that failed, passed where it was to fail, or was left open
@@ -42,7 +42,7 @@ row_of test how nanos part = record {
   tags = tags_of part;
   nanos = nanos;
   text = if is_failure how then text_of part else [];
-  reason = if is_skip how then first_line (reason_of part) else [];
+  reason = if is_skip how then first_text_line (reason_of part) else [];
 }
 
 -- the part of the test that the event completes, where these events came before it
@@ -72,13 +72,13 @@ abbrev pub completed_rows : List Event → List Row
 completed_rows es = completed_behind [] es
 
 -- at least one event
-abbrev pub is_part : List Event → Bool
-is_part [] = false
-is_part (e ∷ es) = true
+abbrev pub has_events : List Event → Bool
+has_events [] = false
+has_events (e ∷ es) = true
 
 -- the test's last part has an event, and none that completes it
 abbrev pub is_open : List Event → TestKey → Bool
-is_open es test = is_part (last_part (events_of_test test es))
+is_open es test = has_events (last_part (events_of_test test es))
 
 -- the tests whose last part is not completed
 abbrev pub open_tests : List Event → List TestKey

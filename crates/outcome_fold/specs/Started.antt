@@ -24,7 +24,7 @@ after s e = record {
 }
 
 -- this is what the event says of its test
-pub record Says (said : Said) (e : Event) : Type 0 where
+pub record IsSaidBy (said : Said) (e : Event) : Type 0 where
   pub instant : said.instant ≡ option_map instant e.stamp
   pub tags : said.tags ≡ e.tags
   pub name : said.name.now ≡ name_in e.file

@@ -7,7 +7,7 @@ use Rattle.outcome_fold.specs.declared.row.Ended.{Ended}
 use Rattle.outcome_fold.specs.declared.row.Row.{Row}
 use Rattle.outcome_fold.specs.declared.summary.Summary.{Summary}
 use Rattle.outcome_fold.specs.declared.summary.Timed.{Timed}
-use Rattle.outcome_fold.specs.declared.summing.Summing.{Summing}
+use Rattle.outcome_fold.specs.declared.row_sums.RowSums.{RowSums}
 use Rattle.outcome_fold.specs.Answers.{row_fails, is_run, ids_of, times_of, counts_of}
 use Rattle.outcome_fold.specs.Folded.{HasSeen}
 use Rattle.outcome_fold.specs.Order.{in_byte_order, text_cmp}
@@ -49,7 +49,7 @@ with_rows rows (Ok kept) = Ok rows
 with_rows rows (Err fault) = Err fault
 
 -- the events were folded, and the rows that they complete are summed up
-pub record HasSummed (filter_tags : List (List ℕ)) (summing : Summing) (seen : List Event) : Type 0 where
+pub record HasSummed (filter_tags : List (List ℕ)) (summing : RowSums) (seen : List Event) : Type 0 where
   pub tags : summing.filter_tags ≡ filter_tags
   pub started : HasSeen summing.fold seen
   pub sums : Sums filter_tags (completed_rows seen) summing.summary

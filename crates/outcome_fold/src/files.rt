@@ -2,7 +2,7 @@
 
 ghost use Rattle.std.specs.Prelude.{◌≡◌, ◌++◌, [], None, Some, take, codes, IfOk, OnOk, OnErr, if◌then◌else◌};
 ghost use Rattle.outcome_fold.specs.Parts.{text_limit};
-ghost use Rattle.outcome_fold.specs.Files.{no_files, ends_line, head_of, end_of, framed as framed_text, shown_by, text_shown, is_current, with_other, with_bytes, with_piece};
+ghost use Rattle.outcome_fold.specs.Files.{no_files, ends_line, frame_head, frame_end, framed as framed_text, shown_by, text_shown, is_current, with_other, with_bytes, with_piece};
 
 use crate::part::KeptText;
 use std::alloc::Global;
@@ -97,7 +97,7 @@ impl KeptFiles {
     fn begin_later(&mut self, alloc: Global, name: &[u8], piece: &[u8]) -> Result<(), NoMemory>
         ensures first { self.new.first ≡ self.old.first }
         ensures later { OnOk result (self.new.later ≡ Some name.now) }
-        ensures others { OnOk result (self.new.others ≡ take text_limit (self.old.others ++ end_of self.old.others ++ head_of name.now ++ piece.now)) }
+        ensures others { OnOk result (self.new.others ≡ take text_limit (self.old.others ++ frame_end self.old.others ++ frame_head name.now ++ piece.now)) }
         ensures traceback { self.new.traceback ≡ self.old.traceback }
         ensures err { OnErr result (self.new ≡ self.old) }
     {
@@ -184,7 +184,7 @@ fn ends_its_line(text: &[u8]) -> bool
 
 // What stands behind a file of this text, which is not alone.
 fn end_behind(text: &[u8]) -> &'static [u8]
-    ensures { result.now ≡ end_of text.now }
+    ensures { result.now ≡ frame_end text.now }
 {
     if ends_its_line(text) {
         b"}}}\n"
@@ -202,7 +202,7 @@ fn line_end(text: &[u8]) -> &'static [u8]
 
 // What stands behind this text where the piece begins a file of this name, as far as it is kept.
 fn lead_to(alloc: Global, text: &[u8], name: &[u8], piece: &[u8]) -> Result<KeptText, NoMemory>
-    ensures { IfOk result (λ lead. lead ≡ take text_limit (end_of text.now ++ head_of name.now ++ piece.now)) }
+    ensures { IfOk result (λ lead. lead ≡ take text_limit (frame_end text.now ++ frame_head name.now ++ piece.now)) }
 {
     let mut lead = KeptText::new(alloc);
     lead.append(end_behind(text))?;
@@ -214,7 +214,7 @@ fn lead_to(alloc: Global, text: &[u8], name: &[u8], piece: &[u8]) -> Result<Kept
 
 // Several files but the traceback, of which the first has this name, as far as they are kept.
 fn under_name(alloc: Global, first: &[u8], others: &[u8]) -> Result<KeptText, NoMemory>
-    ensures { IfOk result (λ text. text ≡ take text_limit (head_of first.now ++ others.now ++ end_of others.now)) }
+    ensures { IfOk result (λ text. text ≡ take text_limit (frame_head first.now ++ others.now ++ frame_end others.now)) }
 {
     let mut text = KeptText::new(alloc);
     text.append(first)?;

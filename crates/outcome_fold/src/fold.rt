@@ -9,13 +9,13 @@ ghost use Rattle.packet_codec.specs.declared.event.Event.{Event as AnEvent};
 ghost use Rattle.outcome_fold.specs.Rows.{is_skip, completed_row, open_rows};
 ghost use Rattle.outcome_fold.specs.declared.row.Ended.TheVariants as ended;
 ghost use Rattle.outcome_fold.specs.Parts as parts;
-ghost use Rattle.outcome_fold.specs.Parts.{first_line};
+ghost use Rattle.outcome_fold.specs.Parts.{first_text_line};
 ghost use Rattle.outcome_fold.specs.Started.{after};
 ghost use Rattle.outcome_fold.specs.declared.fold.Held.{Held as AHeld};
 ghost use Rattle.std.specs.Ordering.{eq_by_cmp};
 ghost use Rattle.outcome_fold.specs.Order.{test_cmp};
 ghost use Rattle.outcome_fold.specs.Files.{text_shown, with_piece};
-ghost use Rattle.outcome_fold.specs.Folded.{HasSeen, Speaks, open_in, others_in, extended_by, with_extended, files_in, gives_failure as gives_failure_by, text_at, row_at};
+ghost use Rattle.outcome_fold.specs.Folded.{HasSeen, Speaks, open_in, other_parts_in, extended_by, with_extended, files_in, gives_failure as gives_failure_by, row_text, row_at};
 ghost use Rattle.outcome_fold.specs.Outcome.{HasFolded};
 ghost use Rattle.outcome_fold.specs.EndedParts.{completed_part, open_parts, part_of_open as part_of_an_open, row_of_part as row_of_a_part, text_told};
 
@@ -66,7 +66,7 @@ impl Fold {
     // Puts the test that is held, if there is one, among the others.
     #[inline(always)]
     fn put_down(&mut self) -> Result<(), NoMemory>
-        ensures ok { OnOk result ((self.new.held ≡ None) × (others_in self.new ≡ open_in self.old)) }
+        ensures ok { OnOk result ((self.new.held ≡ None) × (other_parts_in self.new ≡ open_in self.old)) }
         ensures err { OnErr result (open_in self.new ≡ open_in self.old) }
     {
         match &self.held {
@@ -78,7 +78,7 @@ impl Fold {
     // The same, with a frame of its own.
     #[inline(never)]
     fn put_among_others(&mut self) -> Result<(), NoMemory>
-        ensures ok { OnOk result ((self.new.held ≡ None) × (others_in self.new ≡ open_in self.old)) }
+        ensures ok { OnOk result ((self.new.held ≡ None) × (other_parts_in self.new ≡ open_in self.old)) }
         ensures err { OnErr result (open_in self.new ≡ open_in self.old) }
     {
         let Some(Held { key, part }) = self.held.take() else {
@@ -96,10 +96,10 @@ impl Fold {
 
     // Whether the test is among the others. Where it is, its part takes what the event says.
     fn extend(&mut self, key: &TestKey, said: &mut Said<'_>) -> Result<bool, NoMemory>
-        ensures was_open { IfOk result (λ was_open. was_open ≡ is_some (map.get (others_in self.old) key.now)) }
+        ensures was_open { IfOk result (λ was_open. was_open ≡ is_some (map.get (other_parts_in self.old) key.now)) }
         ensures kept { IfOk result (λ was_open. was_open ≡ false → said.new ≡ said.old) }
-        ensures ok { OnOk result (others_in self.new ≡ with_extended (others_in self.old) key.now said.old) }
-        ensures err { OnErr result (others_in self.new ≡ others_in self.old) }
+        ensures ok { OnOk result (other_parts_in self.new ≡ with_extended (other_parts_in self.old) key.now said.old) }
+        ensures err { OnErr result (other_parts_in self.new ≡ other_parts_in self.old) }
         ensures held { self.new.held ≡ self.old.held }
     {
         if self.others.is_empty() {
@@ -119,8 +119,8 @@ impl Fold {
     #[inline(never)]
     fn go_on(&mut self, key: TestKey, mut said: Said<'_>) -> Result<(), NoMemory>
         requires { self.old.held ≡ None }
-        ensures ok { OnOk result (open_in self.new ≡ map.insert (others_in self.old) key (extended_by (map.get (others_in self.old) key) said.entry)) }
-        ensures err { OnErr result (open_in self.new ≡ others_in self.old) }
+        ensures ok { OnOk result (open_in self.new ≡ map.insert (other_parts_in self.old) key (extended_by (map.get (other_parts_in self.old) key) said.entry)) }
+        ensures err { OnErr result (open_in self.new ≡ other_parts_in self.old) }
     {
         if self.extend(&key, &mut said)? {
             return Ok(());
@@ -134,9 +134,9 @@ impl Fold {
     #[inline(never)]
     fn finish(&mut self, key: &TestKey, mut said: Said<'_>) -> Result<Started, NoMemory>
         requires { self.old.held ≡ None }
-        ensures part { IfOk result (λ started. started ≡ extended_by (map.get (others_in self.old) key.now) said.entry) }
-        ensures ok { OnOk result (open_in self.new ≡ map.remove (others_in self.old) key.now) }
-        ensures err { OnErr result (open_in self.new ≡ others_in self.old) }
+        ensures part { IfOk result (λ started. started ≡ extended_by (map.get (other_parts_in self.old) key.now) said.entry) }
+        ensures ok { OnOk result (open_in self.new ≡ map.remove (other_parts_in self.old) key.now) }
+        ensures err { OnErr result (open_in self.new ≡ other_parts_in self.old) }
     {
         if self.extend(key, &mut said)? {
             Ok(self.others.remove(key).unwrap())
@@ -194,7 +194,7 @@ impl Fold {
     fn extend_held(&mut self, packet: &Packet<'_>) -> Result<(), NoMemory>
         ensures ok { (e : AnEvent) (held : AHeld) → SpellsEvent packet.now e → self.old.held ≡ Some held → OnOk result (self.new.held ≡ Some (record { key = held.key; part = after held.part e })) }
         ensures err { OnErr result (self.new.held ≡ self.old.held) }
-        ensures others { others_in self.new ≡ others_in self.old }
+        ensures others { other_parts_in self.new ≡ other_parts_in self.old }
     {
         if let Some(held) = &mut self.held {
             held.part.hear(self.alloc, packet)?;
@@ -205,7 +205,7 @@ impl Fold {
     // Takes the test out of the others, if it is among them.
     #[inline(always)]
     fn forget(&mut self, key: &TestKey)
-        ensures others { others_in self.new ≡ map.remove (others_in self.old) key.now }
+        ensures others { other_parts_in self.new ≡ map.remove (other_parts_in self.old) key.now }
         ensures held { self.new.held ≡ self.old.held }
     {
         if self.others.is_empty() {
@@ -288,7 +288,7 @@ impl Fold {
 
     // The same, where it is not the test that is held.
     fn text_among_others(&self, key: &TestKey, name: &[u8], piece: &[u8]) -> Result<Bytes, NoMemory>
-        ensures { IfOk result (λ text. text ≡ text_shown (with_piece (files_in (map.get (others_in self.now) key.now)) name.now piece.now)) }
+        ensures { IfOk result (λ text. text ≡ text_shown (with_piece (files_in (map.get (other_parts_in self.now) key.now)) name.now piece.now)) }
     {
         match self.others.get(key) {
             Some(part) => part.files.shown_with(self.alloc, name, piece),
@@ -445,14 +445,14 @@ fn no_text(alloc: Global) -> Bytes
 
 // The text of a row that is not completed.
 fn open_text(alloc: Global, files: &KeptFiles) -> Result<Bytes, NoMemory>
-    ensures { IfOk result (λ text. text ≡ text_at ended.Open files.now) }
+    ensures { IfOk result (λ text. text ≡ row_text ended.Open files.now) }
 {
     files.shown(alloc)
 }
 
 // The reason of a row that ended so: its first line where the test was skipped, else none.
 fn row_reason(alloc: Global, ended: Ended, reason: KeptText) -> Bytes
-    ensures { result ≡ (if is_skip ended then first_line reason else []) }
+    ensures { result ≡ (if is_skip ended then first_text_line reason else []) }
 {
     if ended == Ended::Skip {
         reason.into_first_line()
@@ -514,7 +514,7 @@ fn row_of(
     started: Started,
     text: Bytes,
 ) -> Row
-    ensures { text ≡ text_at ended started.files → result ≡ row_at key ended nanos started }
+    ensures { text ≡ row_text ended started.files → result ≡ row_at key ended nanos started }
 {
     let TestKey { route, id } = key;
     let Started {

@@ -8,7 +8,7 @@ ghost use Rattle.packet_codec.specs.Lanes.{IsMerge, joined};
 ghost use Rattle.outcome_fold.specs.declared.row.Row.{Row as ARow};
 ghost use Rattle.outcome_fold.specs.declared.test_key.TestKey.{TestKey as ATest};
 ghost use Rattle.outcome_fold.specs.Order.{text_cmp, route_cmp, test_cmp};
-ghost use Rattle.outcome_fold.specs.Parts.{completes, events_of_test};
+ghost use Rattle.outcome_fold.specs.Parts.{has_end_status, events_of_test};
 ghost use Rattle.outcome_fold.specs.Routes.{AgreeByRoute, SaySame};
 ghost use Rattle.outcome_fold.specs.Rows.{completed_rows, open_rows, rows_of, is_open, is_row_of};
 
@@ -27,7 +27,7 @@ pub fn orders_of_maps()
 pub fn rows_of_events()
     // A test has as many rows as its events have parts: one for each event that completes, and one for the last part
     // where that is not completed. A test of which no event speaks has none.
-    ensures parts { (es : List AnEvent) (test : ATest) → count_by (is_row_of test) (rows_of es) ≡ count_by completes (events_of_test test es) + (if is_open es test then 1 else 0) }
+    ensures parts { (es : List AnEvent) (test : ATest) → count_by (is_row_of test) (rows_of es) ≡ count_by has_end_status (events_of_test test es) + (if is_open es test then 1 else 0) }
     // Each row of a part is among the rows.
     ensures completed { (es : List AnEvent) (row : ARow) → Contains (completed_rows es) row → Contains (rows_of es) row }
     ensures left_open { (es : List AnEvent) (row : ARow) → Contains (open_rows es) row → Contains (rows_of es) row }

@@ -11,7 +11,7 @@
 //! - `row`: how a test ended, and what became of it
 //! - `fold`: the events folded into rows, as they come, and of a whole run
 //! - `rows`: the rows of a run, in their groups, how many there are, and what they say
-//! - `summing`, `summary`, `longest`: what is kept of them where the rows that pass are not
+//! - `row_sums`, `summary`, `longest_times`: what is kept of them where the rows that pass are not
 //! - `row_listener`: who hears each row before it is summed up
 //! - `text_set`: texts in the order of their bytes, each once
 //! - `laws`, `half_laws`: what holds of the rows of all events, and where an event stands in two halves
@@ -21,13 +21,13 @@ mod files;
 mod fold;
 mod half_laws;
 mod laws;
-mod longest;
+mod longest_times;
 mod part;
 mod row;
 mod row_listener;
+mod row_sums;
 mod rows;
 mod summary;
-mod summing;
 mod test_key;
 mod text_set;
 
@@ -41,8 +41,8 @@ pub use part::{
 };
 pub use row::{Counts, Ended, Row, ended_by};
 pub use row_listener::RowListener;
+pub use row_sums::RowSums;
 pub use rows::{Rows, count_with};
 pub use summary::{Summary, Timed};
-pub use summing::Summing;
 pub use test_key::{TestKey, key_in, key_of};
 pub use text_set::{TextSet, copies_of, in_order, sorted_tags};

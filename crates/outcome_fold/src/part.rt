@@ -2,11 +2,11 @@
 
 ghost use Rattle.outcome_fold.specs.Parts as parts;
 ghost use Rattle.std.specs.Prelude.{◌≡◌, IsTrue, IfOk, OnOk, OnErr, not, nat_eq, [], ◌++◌, take};
-ghost use Rattle.outcome_fold.specs.Parts.{text_by, text_limit, reason_by, reason_limit, first_line};
+ghost use Rattle.outcome_fold.specs.Parts.{text_by, text_limit, reason_by, reason_limit, first_text_line};
 ghost use Rattle.std.specs.List.{prefix_len};
 ghost use Rattle.std.specs.Option.{option_map, unwrap_or};
 ghost use Rattle.outcome_fold.specs.Files.{name_in};
-ghost use Rattle.outcome_fold.specs.Started.{Says, after, after_said, fresh_said};
+ghost use Rattle.outcome_fold.specs.Started.{IsSaidBy, after, after_said, fresh_said};
 ghost use Rattle.packet_codec.specs.Packet.{SpellsEvent};
 ghost use Rattle.packet_codec.specs.Shapes.{bytes_of};
 ghost use Rattle.packet_codec.specs.declared.event.Event.{Event as AnEvent};
@@ -105,7 +105,7 @@ impl KeptText {
 
     /// The bytes of the first line, without its newline, moved out.
     pub fn into_first_line(mut self) -> Bytes
-        ensures { result ≡ first_line self }
+        ensures { result ≡ first_text_line self }
     {
         let size = line_size(&self.bytes);
         self.bytes.truncate(size);
@@ -309,7 +309,7 @@ pub(crate) struct Said<'a> {
 
 /// What the event says. Its tags are copied.
 pub(crate) fn said_by(alloc: Global, event: &Event) -> Result<Said<'_>, NoMemory>
-    ensures { IfOk result (λ said. Says said event.now) }
+    ensures { IfOk result (λ said. IsSaidBy said event.now) }
 {
     Ok(Said {
         instant: instant_of(event),
@@ -323,7 +323,7 @@ pub(crate) fn said_by(alloc: Global, event: &Event) -> Result<Said<'_>, NoMemory
 /// What the packet's event says. Its tags are copied, and its text stays where it stands.
 #[inline(always)]
 pub(crate) fn said_in<'p>(alloc: Global, packet: &'p Packet<'_>) -> Result<Said<'p>, NoMemory>
-    ensures { (e : AnEvent) → SpellsEvent packet.now e → IfOk result (λ said. Says said e) }
+    ensures { (e : AnEvent) → SpellsEvent packet.now e → IfOk result (λ said. IsSaidBy said e) }
 {
     Ok(Said {
         instant: instant_in(packet),

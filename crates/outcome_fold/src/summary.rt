@@ -10,7 +10,7 @@ ghost use Rattle.outcome_fold.specs.Rows as rows_are;
 ghost use Rattle.outcome_fold.specs.Order.{in_byte_order, without};
 ghost use Rattle.outcome_fold.specs.declared.row.Row.{Row as ARow};
 
-use crate::longest::LongestTimes;
+use crate::longest_times::LongestTimes;
 use crate::row::{Counts, Ended, Row};
 use crate::rows::{by_route, count_with, failing_set};
 use crate::text_set::TextSet;

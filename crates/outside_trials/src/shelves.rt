@@ -3,15 +3,15 @@
 use edge_io::{Failed, Shelf};
 use real_outside::{FolderShelf, Sharing};
 
-pub fn alone(rt: &HostRuntime) -> FolderShelf<'_, HostRuntime> {
+pub fn shelf_alone(rt: &HostRuntime) -> FolderShelf<'_, HostRuntime> {
     FolderShelf::new(rt.alloc(), rt, Sharing::Alone)
 }
 
-pub fn adding(rt: &HostRuntime) -> FolderShelf<'_, HostRuntime> {
+pub fn shelf_adding(rt: &HostRuntime) -> FolderShelf<'_, HostRuntime> {
     FolderShelf::new(rt.alloc(), rt, Sharing::Adding)
 }
 
-pub fn together(rt: &HostRuntime) -> FolderShelf<'_, HostRuntime> {
+pub fn shelf_together(rt: &HostRuntime) -> FolderShelf<'_, HostRuntime> {
     FolderShelf::new(rt.alloc(), rt, Sharing::Together)
 }
 
@@ -29,7 +29,7 @@ pub fn publish_bytes(
 
 // Publishes one small file by a shelf of its own.
 pub fn publish_one(rt: &HostRuntime, name: &str) -> Result<(), Failed> {
-    let mut shelf = alone(rt);
+    let mut shelf = shelf_alone(rt);
     publish_bytes(&mut shelf, name, b"first")
 }
 

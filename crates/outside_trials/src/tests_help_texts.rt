@@ -1,6 +1,6 @@
 // Which words ask for help, and which name the folder to work in, or the file of the output.
 
-use help_texts::{Aimed, Parted, help, part_output, part_words};
+use help_texts::{Aimed, Parted, help_of_testr, take_folder_words, take_output_words};
 use std::alloc::Global;
 use std::io;
 use std::process::Abort;
@@ -16,7 +16,7 @@ fn add_words(alloc: Global, list: &mut Vec<String>, words: &[&str]) -> io::Resul
 fn has_help(rt: &HostRuntime, words: &[&str]) -> io::Result<bool> {
     let mut list = Vec::new(rt.alloc());
     add_words(rt.alloc(), &mut list, words)?;
-    Ok(help(&list).is_some())
+    Ok(help_of_testr(&list).is_some())
 }
 
 const COMMANDS: [&str; 9] = [
@@ -150,7 +150,7 @@ fn is_value(value: &Option<String>, wanted: Option<&str>) -> bool {
 fn parted(rt: &HostRuntime, words: &[&str]) -> io::Result<Parted> {
     let mut list = Vec::new(rt.alloc());
     add_words(rt.alloc(), &mut list, words)?;
-    Ok(part_words(rt.alloc(), &list)?)
+    Ok(take_folder_words(rt.alloc(), &list)?)
 }
 
 #[test]
@@ -214,7 +214,7 @@ const AIMED: [(&[&str], &[&str], Option<&str>); 12] = [
 fn aimed(rt: &HostRuntime, words: &[&str]) -> io::Result<Aimed> {
     let mut list = Vec::new(rt.alloc());
     add_words(rt.alloc(), &mut list, words)?;
-    Ok(part_output(rt.alloc(), &list)?)
+    Ok(take_output_words(rt.alloc(), &list)?)
 }
 
 #[test]

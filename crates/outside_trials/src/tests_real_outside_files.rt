@@ -3,7 +3,7 @@
 use crate::homes::{check_cause, enter_home, is_there, leave_home, shell};
 use crate::parts::begins;
 use edge_io::{Failed, Found, Site};
-use real_outside::{RealSite, enter};
+use real_outside::{RealSite, enter_folder};
 use std::fs;
 use std::process::Abort;
 use std::test::Fail;
@@ -108,7 +108,7 @@ fn an_open_file_is_kept(rt: HostRuntime) -> Result<(), Fail> {
 
 // Whether the folder is entered; none where that fails.
 fn entered(rt: &HostRuntime, path: &str) -> Option<bool> {
-    enter(rt.alloc(), rt, path).ok()
+    enter_folder(rt.alloc(), rt, path).ok()
 }
 
 const FOLDERS: [(&str, Option<bool>); 6] = [
@@ -121,7 +121,7 @@ const FOLDERS: [(&str, Option<bool>); 6] = [
 ];
 
 fn check_enter_cause(rt: &impl Abort, host: &HostRuntime) -> Result<(), Fail> {
-    match enter(host.alloc(), host, "five") {
+    match enter_folder(host.alloc(), host, "five") {
         Ok(_) => assert!(rt; false),
         Err(cause) => check_cause(
             rt,

@@ -4,7 +4,7 @@
 // failed test only by a handle with that bound, and so it takes the host beside it where it makes calls too.
 
 use crate::homes::{enter_home, holds, is_there, leave_home, shell};
-use crate::shelves::{alone, publish_one, put, together};
+use crate::shelves::{publish_one, put, shelf_alone, shelf_together};
 use edge_io::{Failed, NamesFault, Shelf};
 use real_outside::FolderShelf;
 use std::alloc::Global;
@@ -66,7 +66,7 @@ fn check_drafts(rt: &impl Abort, shelf: &mut FolderShelf<'_, HostRuntime>, large
 
 fn check_large_drafts(rt: &impl Abort, host: &HostRuntime) -> io::Result<()> {
     let large = vec![in host.alloc(); b'x'; 100_000]?;
-    check_drafts(rt, &mut alone(host), &large);
+    check_drafts(rt, &mut shelf_alone(host), &large);
     Ok(())
 }
 
@@ -94,7 +94,7 @@ fn check_absent(rt: &impl Abort, host: &HostRuntime, shelf: &mut FolderShelf<'_,
 #[test]
 fn an_absent_folder_is_empty(rt: HostRuntime) -> Result<(), Fail> {
     enter_home(&rt, "absent")?;
-    check_absent(&rt, &rt, &mut alone(&rt));
+    check_absent(&rt, &rt, &mut shelf_alone(&rt));
     assert!(rt; !fs::exists(&rt, ".testrepository")?);
     leave_home(&rt, "absent")?;
     Ok(())
@@ -105,7 +105,7 @@ const STRANGERS: &str =
 mkdir 1 && mkfifo 2 && ln -s .. 3 && ln -s nowhere 4";
 
 fn names_of_folder(rt: &HostRuntime) -> Result<Vec<Text>, NamesFault> {
-    let mut shelf = alone(rt);
+    let mut shelf = shelf_alone(rt);
     shelf.names(rt.alloc())
 }
 
@@ -160,7 +160,7 @@ fn check_strangers(rt: &impl Abort, shelf: &mut FolderShelf<'_, HostRuntime>) {
 fn a_name_that_cannot_be_read_is_a_fault(rt: HostRuntime) -> Result<(), Fail> {
     enter_home(&rt, "unread")?;
     shell(&rt, STRANGERS)?;
-    check_strangers(&rt, &mut together(&rt));
+    check_strangers(&rt, &mut shelf_together(&rt));
     leave_home(&rt, "unread")?;
     Ok(())
 }
@@ -222,7 +222,7 @@ fn a_name_is_not_replaced(rt: HostRuntime) -> Result<(), Fail> {
     enter_home(&rt, "replaced")?;
     publish_one(&rt, "0")?;
     symlink(&rt, "nowhere", ".testrepository/1")?;
-    check_both_taken(&rt, &rt, &mut alone(&rt));
+    check_both_taken(&rt, &rt, &mut shelf_alone(&rt));
     assert!(rt; holds(&rt, ".testrepository/0", "first"));
     assert!(rt; !is_there(&rt, ".testrepository/nowhere"));
     leave_home(&rt, "replaced")?;
@@ -248,10 +248,10 @@ fn partial_runs_and_the_format_are_replaced_in_a_folder_that_is_taken_over_alone
     publish_one(&rt, "format")?;
     publish_one(&rt, "0.part")?;
     publish_one(&rt, "0")?;
-    check_both_kept(&rt, &rt, &mut alone(&rt));
+    check_both_kept(&rt, &rt, &mut shelf_alone(&rt));
     assert!(rt; holds(&rt, ".testrepository/format", "first"));
     assert!(rt; holds(&rt, ".testrepository/0.part", "first"));
-    check_taking_over(&rt, &mut alone(&rt).taking_over());
+    check_taking_over(&rt, &mut shelf_alone(&rt).taking_over());
     assert!(rt; holds(&rt, ".testrepository/format", "other"));
     assert!(rt; holds(&rt, ".testrepository/0.part", "converted"));
     assert!(rt; holds(&rt, ".testrepository/0", "first"));
@@ -288,7 +288,7 @@ fn check_cache_and_run(
 #[test]
 fn a_cache_is_replaced(rt: HostRuntime) -> Result<(), Fail> {
     enter_home(&rt, "cache")?;
-    check_cache_and_run(&rt, &rt, &mut alone(&rt));
+    check_cache_and_run(&rt, &rt, &mut shelf_alone(&rt));
     leave_home(&rt, "cache")?;
     Ok(())
 }
@@ -312,8 +312,8 @@ fn check_grown_anew(rt: &impl Abort, shelf: &mut FolderShelf<'_, HostRuntime>) {
 fn a_file_that_grows_has_an_end(rt: HostRuntime) -> Result<(), Fail> {
     enter_home(&rt, "grown")?;
     publish_one(&rt, "0")?;
-    check_grown(&rt, &rt, &mut together(&rt));
-    check_grown_anew(&rt, &mut together(&rt));
+    check_grown(&rt, &rt, &mut shelf_together(&rt));
+    check_grown_anew(&rt, &mut shelf_together(&rt));
     leave_home(&rt, "grown")?;
     Ok(())
 }
@@ -384,7 +384,7 @@ fn check_given_up(rt: &impl Abort, host: &HostRuntime, shelf: &mut FolderShelf<'
 #[test]
 fn a_draft_that_is_given_up_is_removed(rt: HostRuntime) -> Result<(), Fail> {
     enter_home(&rt, "given-up")?;
-    check_given_up(&rt, &rt, &mut alone(&rt));
+    check_given_up(&rt, &rt, &mut shelf_alone(&rt));
     leave_home(&rt, "given-up")?;
     Ok(())
 }

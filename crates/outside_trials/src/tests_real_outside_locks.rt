@@ -1,7 +1,7 @@
 // What no clause says of the folder's lock: who is kept out, and why a call was refused.
 
 use crate::homes::{check_cause, enter_home, holds, is_there, leave_home, shell};
-use crate::shelves::{adding, alone, publish_bytes, publish_one, put, together};
+use crate::shelves::{publish_bytes, publish_one, put, shelf_adding, shelf_alone, shelf_together};
 use edge_io::{Failed, Shelf};
 use real_outside::FolderShelf;
 use std::os::unix::fs::symlink;
@@ -26,10 +26,10 @@ fn check_kept_out(
 ) {
     assert_eq!(rt; early.length("0"), Ok(None));
     // The first one, which has the lock, is dropped here.
-    check_beside(rt, &mut alone(host), second);
+    check_beside(rt, &mut shelf_alone(host), second);
     assert_eq!(rt; second.length("0"), Err(Failed));
     assert_eq!(rt; early.start_draft(), Err(Failed));
-    check_let_in(rt, &mut alone(host));
+    check_let_in(rt, &mut shelf_alone(host));
 }
 
 fn check_let_in(rt: &impl Abort, last: &mut FolderShelf<'_, HostRuntime>) {
@@ -41,7 +41,7 @@ fn check_let_in(rt: &impl Abort, last: &mut FolderShelf<'_, HostRuntime>) {
 #[test]
 fn other_shelves_are_kept_out(rt: HostRuntime) -> Result<(), Fail> {
     enter_home(&rt, "lock")?;
-    check_kept_out(&rt, &rt, &mut alone(&rt), &mut alone(&rt));
+    check_kept_out(&rt, &rt, &mut shelf_alone(&rt), &mut shelf_alone(&rt));
     leave_home(&rt, "lock")?;
     Ok(())
 }
@@ -57,7 +57,7 @@ fn check_later(rt: &impl Abort, host: &HostRuntime, early: &mut FolderShelf<'_, 
 #[test]
 fn a_folder_that_came_later_is_refused(rt: HostRuntime) -> Result<(), Fail> {
     enter_home(&rt, "later")?;
-    check_later(&rt, &rt, &mut alone(&rt));
+    check_later(&rt, &rt, &mut shelf_alone(&rt));
     leave_home(&rt, "later")?;
     Ok(())
 }
@@ -75,7 +75,7 @@ fn check_removed(rt: &impl Abort, host: &HostRuntime, first: &mut FolderShelf<'_
 #[test]
 fn a_removed_lock_is_no_lock(rt: HostRuntime) -> Result<(), Fail> {
     enter_home(&rt, "removed")?;
-    check_removed(&rt, &rt, &mut alone(&rt));
+    check_removed(&rt, &rt, &mut shelf_alone(&rt));
     assert!(rt; holds(&rt, ".testrepository/0", "first"));
     assert!(rt; !is_there(&rt, ".testrepository/1"));
     leave_home(&rt, "removed")?;
@@ -95,7 +95,7 @@ fn check_refused(rt: &impl Abort, shelf: &mut FolderShelf<'_, HostRuntime>) {
 
 fn check_strange_lock(rt: &impl Abort, host: &HostRuntime, text: &str) -> io::Result<()> {
     make_lock(host, text)?;
-    check_refused(rt, &mut alone(host));
+    check_refused(rt, &mut shelf_alone(host));
     Ok(())
 }
 
@@ -128,7 +128,7 @@ fn check_shared(
 fn those_that_ask_share_the_lock(rt: HostRuntime) -> Result<(), Fail> {
     enter_home(&rt, "shared")?;
     publish_one(&rt, "0")?;
-    check_shared(&rt, &rt, &mut together(&rt), &mut together(&rt));
+    check_shared(&rt, &rt, &mut shelf_together(&rt), &mut shelf_together(&rt));
     leave_home(&rt, "shared")?;
     Ok(())
 }
@@ -152,9 +152,9 @@ fn check_asked(
 }
 
 fn check_adding(rt: &impl Abort, host: &HostRuntime, adds: &mut FolderShelf<'_, HostRuntime>) {
-    check_asked(rt, adds, &mut together(host));
-    check_refused(rt, &mut adding(host));
-    check_refused(rt, &mut alone(host));
+    check_asked(rt, adds, &mut shelf_together(host));
+    check_refused(rt, &mut shelf_adding(host));
+    check_refused(rt, &mut shelf_alone(host));
     assert_eq!(rt; adds.sync_folder(), Ok(()));
 }
 
@@ -163,7 +163,7 @@ fn check_adding(rt: &impl Abort, host: &HostRuntime, adds: &mut FolderShelf<'_, 
 fn those_that_ask_are_let_in_while_a_run_is_added(rt: HostRuntime) -> Result<(), Fail> {
     enter_home(&rt, "adding")?;
     publish_one(&rt, "times.set")?;
-    check_adding(&rt, &rt, &mut adding(&rt));
+    check_adding(&rt, &rt, &mut shelf_adding(&rt));
     assert!(rt; holds(&rt, ".testrepository/0", "run"));
     leave_home(&rt, "adding")?;
     Ok(())
@@ -175,15 +175,15 @@ fn check_none_beside(
     first: &mut FolderShelf<'_, HostRuntime>,
 ) {
     assert_eq!(rt; first.start_draft(), Ok(()));
-    assert_eq!(rt; adding(host).sync_folder(), Err(Failed));
-    assert_eq!(rt; together(host).sync_folder(), Err(Failed));
+    assert_eq!(rt; shelf_adding(host).sync_folder(), Err(Failed));
+    assert_eq!(rt; shelf_together(host).sync_folder(), Err(Failed));
 }
 
 // One that has the folder alone keeps out both, also where it made the folder.
 #[test]
 fn none_is_let_in_beside_one_alone(rt: HostRuntime) -> Result<(), Fail> {
     enter_home(&rt, "beside")?;
-    check_none_beside(&rt, &rt, &mut alone(&rt));
+    check_none_beside(&rt, &rt, &mut shelf_alone(&rt));
     leave_home(&rt, "beside")?;
     Ok(())
 }
@@ -214,8 +214,8 @@ fn check_causes(
 }
 
 fn check_two_shelves(rt: &impl Abort, host: &HostRuntime) -> io::Result<()> {
-    let mut first = alone(host);
-    let mut second = alone(host);
+    let mut first = shelf_alone(host);
+    let mut second = shelf_alone(host);
     check_causes(rt, host, &mut first, &mut second)
 }
 

@@ -5,7 +5,7 @@ use Rattle.std.proofs.lemmas.List.{length-append, append-nil}
 use Rattle.std.proofs.lemmas.List.Elements.{All-append}
 use Rattle.sub_number.specs.Numbers.{SpellsNumber}
 use Rattle.packet_codec.specs.Packet.{signature}
-use Rattle.packet_codec.specs.Grammar.{AreBytes, Found}
+use Rattle.packet_codec.specs.Grammar.{AreBytes, SpellsFront}
 use Rattle.packet_codec.specs.Header.{IsHeader, BeginsWithHeader, BeginsWithPacket, IsFrontOfHeader, NeedsMore, LooksLike}
 use Rattle.packet_codec.specs.Shapes.{HeaderShape}
 use Rattle.packet_codec.specs.declared.front.Front.{Front}
@@ -18,7 +18,7 @@ use Rattle.packet_codec.proofs.SpelledLemmas.{decided_number, number_of, number_
 
 -- ---- headers
 
-pub header_found : (b : List ℕ) (size : ℕ) → (h : BeginsWithHeader b size) → Found HeaderShape b (h.3.first, (h.3.second, size)) h.1
+pub header_found : (b : List ℕ) (size : ℕ) → (h : BeginsWithHeader b size) → SpellsFront HeaderShape b (h.3.first, (h.3.second, size)) h.1
 header_found b size (h, rest, parts, s) = record { front = h; parts = parts; spelled = header_shape h size s }
 
 pub one_size : (b : List ℕ) (n m : ℕ) → AreBytes b → BeginsWithHeader b n → BeginsWithHeader b m → n ≡ m
@@ -29,9 +29,9 @@ are_both front rest are are' = All-append (λ byte. byte < 256) front rest are a
 
 whole_is_no_front : (b : List ℕ) (size : ℕ) → AreBytes b → BeginsWithHeader b size → IsFrontOfHeader b → ⊥
 whole_is_no_front b size are (h, rest, parts, s) front =
-    let longer : Found HeaderShape (b ++ front.rest) (s.first, (s.second, size)) (rest ++ front.rest) =
+    let longer : SpellsFront HeaderShape (b ++ front.rest) (s.first, (s.second, size)) (rest ++ front.rest) =
     record { front = h; parts = ap (λ (l : List ℕ). l ++ front.rest) parts ∙ append_assoc h rest front.rest; spelled = header_shape h size s } in
-    let whole : Found HeaderShape (b ++ front.rest) (front.header.first, (front.header.second, front.size)) [] =
+    let whole : SpellsFront HeaderShape (b ++ front.rest) (front.header.first, (front.header.second, front.size)) [] =
     record { front = b ++ front.rest; parts = sym (append-nil (b ++ front.rest)); spelled = header_shape _ front.size front.header } in
     let same = found_same HeaderShape header_free (b ++ front.rest) _ _ _ _ (fits_from_are (b ++ front.rest) (are_both b front.rest are front.are_bytes)) longer whole in
     omega (arith, front.some, ap length same.rest, length-append rest front.rest)

@@ -5,7 +5,7 @@ use Rattle.std.proofs.lemmas.Bool.{cases_lt}
 use Rattle.sub_number.specs.Numbers.{SpellsNumber}
 use Rattle.sub_number.proofs.NumberLemmas.{AreBytes, length_from_first}
 use Rattle.packet_codec.specs.Grammar as grammar
-use Rattle.packet_codec.specs.Grammar.{Found, NotFound, Pair, Counted, Flagged}
+use Rattle.packet_codec.specs.Grammar.{SpellsFront, NotFound, Pair, Counted, Flagged}
 
 -- by index, as a slice of bytes tells it
 pub fits_from_are : (bytes : List ℕ) → grammar.AreBytes bytes → AreBytes bytes
@@ -89,30 +89,30 @@ exactly_free f r f' r' a a' len are are' e s s' =
     record { front = both.0; rest = both.1; value = sym s ∙ both.0 ∙ s' }
 
 -- the value that the bytes begin with is one
-pub found_same : {A : Type 0} (Spells : List ℕ → A → Type 0) → IsPrefixFree Spells → (bytes r r' : List ℕ) (a a' : A) → AreBytes bytes → (s : Found Spells bytes a r) → (s' : Found Spells bytes a' r') → Same s.front r s'.front r' a a'
+pub found_same : {A : Type 0} (Spells : List ℕ → A → Type 0) → IsPrefixFree Spells → (bytes r r' : List ℕ) (a a' : A) → AreBytes bytes → (s : SpellsFront Spells bytes a r) → (s' : SpellsFront Spells bytes a' r') → Same s.front r s'.front r' a a'
 found_same Spells free bytes r r' a a' are s s' =
     free s.front r s'.front r' a a' (are_front _ _ (rw (s.parts) at are)) (are_front _ _ (rw (s'.parts) at are)) (sym s.parts ∙ s'.parts) s.spelled s'.spelled
 
-pub found_are : {A : Type 0} (Spells : List ℕ → A → Type 0) (bytes rest : List ℕ) (a : A) → AreBytes bytes → Found Spells bytes a rest → AreBytes rest
+pub found_are : {A : Type 0} (Spells : List ℕ → A → Type 0) (bytes rest : List ℕ) (a : A) → AreBytes bytes → SpellsFront Spells bytes a rest → AreBytes rest
 found_are Spells bytes rest a are s = are_rest s.front rest (rw (s.parts) at are)
 
 -- ---- one after the other
 
 module _ {A B : Type 0} (First : List ℕ → A → Type 0) (Second : List ℕ → B → Type 0) where
-  pub found_pair : (bytes middle rest : List ℕ) (a : A) (b : B) → Found First bytes a middle → Found Second middle b rest → Found (Pair First Second) bytes (a, b) rest
+  pub found_pair : (bytes middle rest : List ℕ) (a : A) (b : B) → SpellsFront First bytes a middle → SpellsFront Second middle b rest → SpellsFront (Pair First Second) bytes (a, b) rest
   found_pair bytes middle rest a b s t = record {
     front = s.front ++ t.front;
     parts = s.parts ∙ ap (λ (l : List ℕ). s.front ++ l) t.parts ∙ sym (append_assoc s.front t.front rest);
     spelled = record { first = s.front; second = t.front; parts = refl; first_spelled = s.spelled; second_spelled = t.spelled };
   }
 
-  pub pair_first : (bytes rest : List ℕ) (v : A × B) → (s : Found (Pair First Second) bytes v rest) → Found First bytes v.0 (s.spelled.second ++ rest)
+  pub pair_first : (bytes rest : List ℕ) (v : A × B) → (s : SpellsFront (Pair First Second) bytes v rest) → SpellsFront First bytes v.0 (s.spelled.second ++ rest)
   pair_first bytes rest v s = record { front = s.spelled.first; parts = regroup s.front s.spelled.first s.spelled.second rest bytes s.spelled.parts s.parts; spelled = s.spelled.first_spelled }
 
   pub not_first : (bytes : List ℕ) → NotFound First bytes → NotFound (Pair First Second) bytes
   not_first bytes never v rest s = never v.0 (s.spelled.second ++ rest) (pair_first bytes rest v s)
 
-  pub not_second : IsPrefixFree First → (bytes middle : List ℕ) (a : A) → AreBytes bytes → Found First bytes a middle → NotFound Second middle → NotFound (Pair First Second) bytes
+  pub not_second : IsPrefixFree First → (bytes middle : List ℕ) (a : A) → AreBytes bytes → SpellsFront First bytes a middle → NotFound Second middle → NotFound (Pair First Second) bytes
   not_second free bytes middle a are found never v rest s =
       let same = found_same First free bytes (s.spelled.second ++ rest) middle v.0 a are (pair_first bytes rest v s) found in
       never v.1 rest (record { front = s.spelled.second; parts = sym same.rest; spelled = s.spelled.second_spelled })
@@ -120,31 +120,31 @@ module _ {A B : Type 0} (First : List ℕ → A → Type 0) (Second : List ℕ �
 -- ---- a number, and so much of what follows it
 
 module _ {A : Type 0} (size : A → ℕ) (Spells : List ℕ → A → Type 0) where
-  pub found_counted : (bytes middle rest : List ℕ) (n : ℕ) (a : A) → size a ≡ n → Found SpellsNumber bytes n middle → Found Spells middle a rest → Found (Counted size Spells) bytes a rest
+  pub found_counted : (bytes middle rest : List ℕ) (n : ℕ) (a : A) → size a ≡ n → SpellsFront SpellsNumber bytes n middle → SpellsFront Spells middle a rest → SpellsFront (Counted size Spells) bytes a rest
   found_counted bytes middle rest n a is s t = record {
     front = s.front ++ t.front;
     parts = s.parts ∙ ap (λ (l : List ℕ). s.front ++ l) t.parts ∙ sym (append_assoc s.front t.front rest);
     spelled = record { number = s.front; content = t.front; parts = refl; number_spelled = rw is s.spelled; content_spelled = t.spelled };
   }
 
-  counted_number : (bytes rest : List ℕ) (a : A) → (s : Found (Counted size Spells) bytes a rest) → Found SpellsNumber bytes (size a) (s.spelled.content ++ rest)
+  counted_number : (bytes rest : List ℕ) (a : A) → (s : SpellsFront (Counted size Spells) bytes a rest) → SpellsFront SpellsNumber bytes (size a) (s.spelled.content ++ rest)
   counted_number bytes rest a s = record { front = s.spelled.number; parts = regroup s.front s.spelled.number s.spelled.content rest bytes s.spelled.parts s.parts; spelled = s.spelled.number_spelled }
 
   pub not_number : (bytes : List ℕ) → NotFound SpellsNumber bytes → NotFound (Counted size Spells) bytes
   not_number bytes never a rest s = never (size a) (s.spelled.content ++ rest) (counted_number bytes rest a s)
 
   -- behind the number there is no value of its size
-  pub not_content : (bytes middle : List ℕ) (n : ℕ) → AreBytes bytes → Found SpellsNumber bytes n middle → ((a : A) (rest : List ℕ) → size a ≡ n → Found Spells middle a rest → ⊥) → NotFound (Counted size Spells) bytes
+  pub not_content : (bytes middle : List ℕ) (n : ℕ) → AreBytes bytes → SpellsFront SpellsNumber bytes n middle → ((a : A) (rest : List ℕ) → size a ≡ n → SpellsFront Spells middle a rest → ⊥) → NotFound (Counted size Spells) bytes
   not_content bytes middle n are found never a rest s =
       let same = found_same SpellsNumber number_free bytes (s.spelled.content ++ rest) middle (size a) n are (counted_number bytes rest a s) found in
       never a rest same.value (record { front = s.spelled.content; parts = sym same.rest; spelled = s.spelled.content_spelled })
 
 -- ---- behind a flag
 
-pub found_flagged : {A : Type 0} (Spells : List ℕ → A → Type 0) (bytes rest : List ℕ) (a : A) → Found Spells bytes a rest → Found (Flagged true Spells) bytes (Some a) rest
+pub found_flagged : {A : Type 0} (Spells : List ℕ → A → Type 0) (bytes rest : List ℕ) (a : A) → SpellsFront Spells bytes a rest → SpellsFront (Flagged true Spells) bytes (Some a) rest
 found_flagged Spells bytes rest a s = record { front = s.front; parts = s.parts; spelled = s.spelled }
 
-pub found_absent : {A : Type 0} (Spells : List ℕ → A → Type 0) (bytes : List ℕ) → Found {A = Option A} (Flagged false Spells) bytes None bytes
+pub found_absent : {A : Type 0} (Spells : List ℕ → A → Type 0) (bytes : List ℕ) → SpellsFront {A = Option A} (Flagged false Spells) bytes None bytes
 found_absent Spells bytes = record { front = []; parts = refl; spelled = refl }
 
 pub not_flagged : {A : Type 0} (Spells : List ℕ → A → Type 0) (bytes : List ℕ) → NotFound Spells bytes → NotFound {A = Option A} (Flagged true Spells) bytes
@@ -154,5 +154,5 @@ not_flagged Spells bytes never None rest s = s.spelled
 pub not_flagged_as : {A : Type 0} (Spells : List ℕ → A → Type 0) (set : Bool) (bytes : List ℕ) → set ≡ true → NotFound Spells bytes → NotFound {A = Option A} (Flagged set Spells) bytes
 not_flagged_as Spells set bytes is never = rw is (not_flagged Spells bytes never)
 
-pub found_flagged_as : {A : Type 0} (Spells : List ℕ → A → Type 0) (set : Bool) (bytes rest : List ℕ) (a : A) → set ≡ true → Found Spells bytes a rest → Found {A = Option A} (Flagged set Spells) bytes (Some a) rest
+pub found_flagged_as : {A : Type 0} (Spells : List ℕ → A → Type 0) (set : Bool) (bytes rest : List ℕ) (a : A) → set ≡ true → SpellsFront Spells bytes a rest → SpellsFront {A = Option A} (Flagged set Spells) bytes (Some a) rest
 found_flagged_as Spells set bytes rest a is s = rw is (found_flagged Spells bytes rest a s)

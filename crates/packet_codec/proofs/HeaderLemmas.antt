@@ -4,7 +4,7 @@ use Rattle.std.proofs.lemmas.List.{take_at, length-append, get_or-drop}
 use Rattle.sub_number.specs.Numbers.{BeginsWithNumber, BeginsWithNoNumber}
 use Rattle.sub_number.proofs.NumberLemmas.{AreBytes, same_number}
 use Rattle.packet_codec.specs.Packet.{signature}
-use Rattle.packet_codec.specs.Grammar.{Found, NotFound}
+use Rattle.packet_codec.specs.Grammar.{SpellsFront, NotFound}
 use Rattle.packet_codec.specs.Shapes.{HeaderShape}
 use Rattle.packet_codec.proofs.GrammarLemmas.{IsPrefixFree, number_free, are_rest}
 
@@ -24,7 +24,7 @@ header_free f r f' r' a a' are are' e s s' =
     }
 
 -- the size that it tells is a number behind three bytes
-size_begins : (bytes rest : List ℕ) (v : ℕ × (ℕ × ℕ)) → (s : Found HeaderShape bytes v rest) → BeginsWithNumber (drop 3 bytes) 3 v.1.1 (length s.spelled.number) × (length s.spelled.number + 7 ≤ v.1.1)
+size_begins : (bytes rest : List ℕ) (v : ℕ × (ℕ × ℕ)) → (s : SpellsFront HeaderShape bytes v rest) → BeginsWithNumber (drop 3 bytes) 3 v.1.1 (length s.spelled.number) × (length s.spelled.number + 7 ≤ v.1.1)
 size_begins bytes rest v s =
     let whole : bytes ≡ signature ∷ v.0 ∷ v.1.0 ∷ (s.spelled.number ++ rest) = s.parts ∙ ap (λ (l : List ℕ). l ++ rest) s.spelled.parts in
     let behind : drop 3 bytes ≡ s.spelled.number ++ rest = ap (drop 3) whole in

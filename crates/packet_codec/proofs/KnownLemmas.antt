@@ -8,7 +8,7 @@ use Rattle.packet_codec.specs.declared.event.Event.{Event}
 use Rattle.packet_codec.specs.declared.header.Header.{Header}
 use Rattle.packet_codec.specs.Flags.{first_flags, second_flags}
 use Rattle.packet_codec.specs.Packet.{SpellsEvent, IsPacket}
-use Rattle.packet_codec.specs.Grammar.{Found, NotFound}
+use Rattle.packet_codec.specs.Grammar.{SpellsFront, NotFound}
 use Rattle.packet_codec.specs.Header.{BeginsWithPacket}
 use Rattle.packet_codec.specs.Shapes.{HeaderShape, HeaderStands}
 use Rattle.packet_codec.proofs.GrammarLemmas.{found_same}
@@ -16,12 +16,12 @@ use Rattle.packet_codec.proofs.HeaderLemmas.{header_free}
 use Rattle.packet_codec.proofs.PacketLemmas.{header_found, room_of, spelled_header}
 
 -- where a packet stands, it is one of some event, with some bytes behind it
-pub packet_there : (p : List ℕ) (size : ℕ) → BeginsWithPacket p size → (event : Event) × (behind : List ℕ) × Found SpellsEvent p event behind
+pub packet_there : (p : List ℕ) (size : ℕ) → BeginsWithPacket p size → (event : Event) × (behind : List ℕ) × SpellsFront SpellsEvent p event behind
 packet_there p size begins = (begins.packet.0, drop size p, record { front = take size p; parts = sym (take-append-drop size p); spelled = begins.packet.1 })
 
-module _ (p : List ℕ) (e : Event) (rest : List ℕ) (f : Found SpellsEvent p e rest) where
+module _ (p : List ℕ) (e : Event) (rest : List ℕ) (f : SpellsFront SpellsEvent p e rest) where
   -- its header is the one that the bytes begin with
-  header_of : Found HeaderShape p (first_flags e, (second_flags e, length f.front)) ((f.spelled.fields ++ to_be_bytes w32 (crc32 f.spelled.body)) ++ rest)
+  header_of : SpellsFront HeaderShape p (first_flags e, (second_flags e, length f.front)) ((f.spelled.fields ++ to_be_bytes w32 (crc32 f.spelled.body)) ++ rest)
   header_of =
       let h = spelled_header f.front e f.spelled in
       record { front = h.front; parts = f.parts ∙ ap (λ (l : List ℕ). l ++ rest) h.parts ∙ append_assoc h.front (f.spelled.fields ++ to_be_bytes w32 (crc32 f.spelled.body)) rest; spelled = h.spelled }

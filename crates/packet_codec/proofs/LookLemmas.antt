@@ -8,7 +8,7 @@ use Rattle.sub_number.specs.Numbers.{SpellsNumber}
 use Rattle.sub_number.proofs.NumberLemmas.{AreBytes, length_from_first}
 use Rattle.packet_codec.specs.declared.header.Header.{Header}
 use Rattle.packet_codec.specs.Grammar as grammar
-use Rattle.packet_codec.specs.Grammar.{Found, NotFound}
+use Rattle.packet_codec.specs.Grammar.{SpellsFront, NotFound}
 use Rattle.packet_codec.specs.Packet.{signature, IsPacket}
 use Rattle.packet_codec.specs.Header.{IsHeader, BeginsWithHeader, BeginsWithPacket, IsFrontOfHeader, NeedsMore}
 use Rattle.packet_codec.specs.Shapes.{HeaderShape, HeaderStands}
@@ -28,7 +28,7 @@ pub header_begins : (p : List ℕ) (header : Header) → HeaderStands p header �
 unfolding header_found
 header_begins p header stands = let found = header_found p header stands in (found.front, drop header.start p, found.parts, is_header found.front _ found.spelled)
 
-begins_found : (p : List ℕ) (size : ℕ) → (b : BeginsWithHeader p size) → Found HeaderShape p (b.3.first, (b.3.second, size)) b.1
+begins_found : (p : List ℕ) (size : ℕ) → (b : BeginsWithHeader p size) → SpellsFront HeaderShape p (b.3.first, (b.3.second, size)) b.1
 begins_found p size (h, rest, parts, s) = record { front = h; parts = parts; spelled = header_shape h size s }
 
 -- the size of the header that was read is that of any header
@@ -47,9 +47,9 @@ whole_is_no_front : (p : List ℕ) (header : Header) → AreBytes p → HeaderSt
 unfolding header_found
 whole_is_no_front p header are stands front =
     let found = header_found p header stands in
-    let longer : Found HeaderShape (p ++ front.rest) (header.first, (header.second, header.size)) (drop header.start p ++ front.rest) =
+    let longer : SpellsFront HeaderShape (p ++ front.rest) (header.first, (header.second, header.size)) (drop header.start p ++ front.rest) =
     record { front = found.front; parts = ap (λ (l : List ℕ). l ++ front.rest) found.parts ∙ append_assoc found.front (drop header.start p) front.rest; spelled = found.spelled } in
-    let whole : Found HeaderShape (p ++ front.rest) (front.header.first, (front.header.second, front.size)) [] =
+    let whole : SpellsFront HeaderShape (p ++ front.rest) (front.header.first, (front.header.second, front.size)) [] =
     record { front = p ++ front.rest; parts = sym (append-nil (p ++ front.rest)); spelled = header_shape _ front.size front.header } in
     let same = found_same HeaderShape header_free (p ++ front.rest) _ _ _ _ (are_append p front.rest are (fits_from_are front.rest front.are_bytes)) longer whole in
     omega (arith, front.some, ap length same.rest, length-append (drop header.start p) front.rest)

@@ -14,7 +14,7 @@ use Rattle.packet_codec.specs.declared.header.Header.{Header}
 use Rattle.packet_codec.specs.Flags.{first_flags, second_flags}
 use Rattle.packet_codec.specs.Fields.{SpellsOptional, SpellsStamp, SpellsTexts, SpellsTags, SpellsFile, SpellsFields}
 use Rattle.packet_codec.specs.Packet.{signature, SpellsEvent, IsPacket}
-use Rattle.packet_codec.specs.Grammar.{Found, NotFound, Flagged}
+use Rattle.packet_codec.specs.Grammar.{SpellsFront, NotFound, Flagged}
 use Rattle.packet_codec.specs.Shapes.{ByteRun, ByteRuns, CountedRuns, NamedRun, bit, Contents, FieldShapes, HeaderShape, HeaderStands, AreTexts, AreShortTexts, status_from, file_from, event_from, contents_of, fields_at, ShowsParts}
 use Rattle.packet_codec.specs.Told.{IsTold}
 use Rattle.packet_codec.specs.Grammar as grammar
@@ -253,7 +253,7 @@ event_again e =
 
 -- ---- a whole packet
 
-pub spelled_header : (p : List ℕ) (e : Event) → (s : SpellsEvent p e) → Found HeaderShape p (first_flags e, (second_flags e, length p)) (s.fields ++ to_be_bytes w32 (crc32 s.body))
+pub spelled_header : (p : List ℕ) (e : Event) → (s : SpellsEvent p e) → SpellsFront HeaderShape p (first_flags e, (second_flags e, length p)) (s.fields ++ to_be_bytes w32 (crc32 s.body))
 spelled_header p e s =
     let header : List ℕ = signature ∷ first_flags e ∷ second_flags e ∷ s.size in
     let whole : p ≡ header ++ (s.fields ++ to_be_bytes w32 (crc32 s.body)) = s.parts ∙ ap (λ (l : List ℕ). l ++ to_be_bytes w32 (crc32 s.body)) s.body_is ∙ append_assoc header s.fields (to_be_bytes w32 (crc32 s.body)) in
@@ -271,7 +271,7 @@ spelled_header p e s =
       };
     }
 
-unfoldable pub header_found : (p : List ℕ) (header : Header) → HeaderStands p header → Found HeaderShape p (header.first, (header.second, header.size)) (drop header.start p)
+unfoldable pub header_found : (p : List ℕ) (header : Header) → HeaderStands p header → SpellsFront HeaderShape p (header.first, (header.second, header.size)) (drop header.start p)
 header_found p header stands = record { front = take header.start p; parts = sym (take-append-drop header.start p); spelled = stands.spelled }
 
 -- no packet is the front of another one

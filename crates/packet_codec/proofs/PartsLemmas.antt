@@ -3,7 +3,7 @@ use Rattle.std.proofs.Common.{◌≡◌, ℕ, Option, Some, None, option_map, Li
 use Rattle.std.proofs.lemmas.List.{append-nil, nil_from_length}
 use Rattle.sub_number.proofs.NumberLemmas.{AreBytes}
 use Rattle.packet_codec.specs.declared.stamp.Stamp.{Stamp}
-use Rattle.packet_codec.specs.Grammar.{Found, NotFound}
+use Rattle.packet_codec.specs.Grammar.{SpellsFront, NotFound}
 use Rattle.packet_codec.specs.Fields.{SpellsStamp}
 use Rattle.packet_codec.specs.Shapes.{ByteRun, CountedRuns, NamedRun, ShowsOptional, bit, Contents, StampShape, IdShape, TagsShape, MimeShape, FileShape, RouteShape, FromFile, FromMime, FromTags, FromId, FieldShapes}
 use Rattle.packet_codec.proofs.GrammarLemmas.{IsPrefixFree, pair_free, flagged_free, found_same, found_are, found_pair, not_first, not_second}
@@ -45,13 +45,13 @@ module _ (first second : ℕ) where
       pair_free (FileShape second) (RouteShape first) file_shape_free route_shape_free))))
 
   -- where the fields end before the bytes do, there are no fields that end with them
-  pub no_fields_with_rest : (bytes rest : List ℕ) (c : Contents) → AreBytes bytes → Found (FieldShapes first second) bytes c rest → 0 < length rest → (d : Contents) → FieldShapes first second bytes d → ⊥
+  pub no_fields_with_rest : (bytes rest : List ℕ) (c : Contents) → AreBytes bytes → SpellsFront (FieldShapes first second) bytes c rest → 0 < length rest → (d : Contents) → FieldShapes first second bytes d → ⊥
   no_fields_with_rest bytes rest c are found some d shape =
-      let whole : Found (FieldShapes first second) bytes d [] = record { front = bytes; parts = sym (append-nil bytes); spelled = shape } in
+      let whole : SpellsFront (FieldShapes first second) bytes d [] = record { front = bytes; parts = sym (append-nil bytes); spelled = shape } in
       let same = found_same (FieldShapes first second) fields_free bytes rest [] c d are found whole in
       omega (arith, ap length same.rest)
 
-  pub all_fields : (bytes rest : List ℕ) (c : Contents) → Found (FieldShapes first second) bytes c rest → length rest ≡ 0 → FieldShapes first second bytes c
+  pub all_fields : (bytes rest : List ℕ) (c : Contents) → SpellsFront (FieldShapes first second) bytes c rest → length rest ≡ 0 → FieldShapes first second bytes c
   all_fields bytes rest c found none = rw (found.parts, nil_from_length rest none, append-nil) found.spelled
 
   never_all : (bytes : List ℕ) → NotFound (FieldShapes first second) bytes → (c : Contents) → FieldShapes first second bytes c → ⊥
@@ -65,7 +65,7 @@ module _ (first second : ℕ) where
     pub no_stamp : NotFound (StampShape first) bytes → (c : Contents) → FieldShapes first second bytes c → ⊥
     no_stamp never = no_from_stamp (not_first (StampShape first) (FromId first second) bytes never)
 
-    module _ (after_stamp : List ℕ) (stamp : Option Stamp) (stamp_found : Found (StampShape first) bytes stamp after_stamp) where
+    module _ (after_stamp : List ℕ) (stamp : Option Stamp) (stamp_found : SpellsFront (StampShape first) bytes stamp after_stamp) where
       are_after_stamp : AreBytes after_stamp
       are_after_stamp = found_are (StampShape first) bytes after_stamp stamp are stamp_found
 
@@ -75,7 +75,7 @@ module _ (first second : ℕ) where
       pub no_id : NotFound (IdShape first) after_stamp → (c : Contents) → FieldShapes first second bytes c → ⊥
       no_id never = no_from_id (not_first (IdShape first) (FromTags first second) after_stamp never)
 
-      module _ (after_id : List ℕ) (id : Option (List ℕ)) (id_found : Found (IdShape first) after_stamp id after_id) where
+      module _ (after_id : List ℕ) (id : Option (List ℕ)) (id_found : SpellsFront (IdShape first) after_stamp id after_id) where
         are_after_id : AreBytes after_id
         are_after_id = found_are (IdShape first) after_stamp after_id id are_after_stamp id_found
 
@@ -85,7 +85,7 @@ module _ (first second : ℕ) where
         pub no_tags : NotFound (TagsShape second) after_id → (c : Contents) → FieldShapes first second bytes c → ⊥
         no_tags never = no_from_tags (not_first (TagsShape second) (FromMime first second) after_id never)
 
-        module _ (after_tags : List ℕ) (tags : Option (List (List ℕ))) (tags_found : Found (TagsShape second) after_id tags after_tags) where
+        module _ (after_tags : List ℕ) (tags : Option (List (List ℕ))) (tags_found : SpellsFront (TagsShape second) after_id tags after_tags) where
           are_after_tags : AreBytes after_tags
           are_after_tags = found_are (TagsShape second) after_id after_tags tags are_after_id tags_found
 
@@ -95,7 +95,7 @@ module _ (first second : ℕ) where
           pub no_mime : NotFound (MimeShape second) after_tags → (c : Contents) → FieldShapes first second bytes c → ⊥
           no_mime never = no_from_mime (not_first (MimeShape second) (FromFile first second) after_tags never)
 
-          module _ (after_mime : List ℕ) (mime : Option (List ℕ)) (mime_found : Found (MimeShape second) after_tags mime after_mime) where
+          module _ (after_mime : List ℕ) (mime : Option (List ℕ)) (mime_found : SpellsFront (MimeShape second) after_tags mime after_mime) where
             are_after_mime : AreBytes after_mime
             are_after_mime = found_are (MimeShape second) after_tags after_mime mime are_after_tags mime_found
 
@@ -105,7 +105,7 @@ module _ (first second : ℕ) where
             pub no_file : NotFound (FileShape second) after_mime → (c : Contents) → FieldShapes first second bytes c → ⊥
             no_file never = no_from_file (not_first (FileShape second) (RouteShape first) after_mime never)
 
-            module _ (after_file : List ℕ) (file : Option (List ℕ × List ℕ)) (file_found : Found (FileShape second) after_mime file after_file) where
+            module _ (after_file : List ℕ) (file : Option (List ℕ × List ℕ)) (file_found : SpellsFront (FileShape second) after_mime file after_file) where
               are_after_file : AreBytes after_file
               are_after_file = found_are (FileShape second) after_mime after_file file are_after_mime file_found
 
@@ -115,7 +115,7 @@ module _ (first second : ℕ) where
               pub no_route : NotFound (RouteShape first) after_file → (c : Contents) → FieldShapes first second bytes c → ⊥
               no_route = no_from_route
 
-              pub fields_found : (rest : List ℕ) (route : Option (List ℕ)) → Found (RouteShape first) after_file route rest → Found (FieldShapes first second) bytes (stamp, (id, (tags, (mime, (file, route))))) rest
+              pub fields_found : (rest : List ℕ) (route : Option (List ℕ)) → SpellsFront (RouteShape first) after_file route rest → SpellsFront (FieldShapes first second) bytes (stamp, (id, (tags, (mime, (file, route))))) rest
               fields_found rest route route_found =
                   let from_file = found_pair (FileShape second) (RouteShape first) after_mime after_file rest file route file_found route_found in
                   let from_mime = found_pair (MimeShape second) (FromFile first second) after_tags after_mime rest mime (file, route) mime_found from_file in

@@ -7,7 +7,7 @@ use Rattle.std.proofs.lemmas.List.{length-append, length-map, get_or-map}
 use Rattle.std.proofs.lemmas.Bool.Decides.{nat_tests}
 use Rattle.std.proofs.lemmas.List.Elements.{All-nil, All-cons}
 use Rattle.sub_number.specs.Numbers.{shortest_number}
-use Rattle.packet_codec.specs.declared.change.Change.{Change}
+use Rattle.packet_codec.specs.declared.event_change.Change.{Change}
 use Rattle.packet_codec.specs.declared.header.Header.{Header}
 use Rattle.packet_codec.specs.declared.parts.Parts.{Parts}
 use Rattle.packet_codec.specs.declared.parts.RunList.{RunList}

@@ -24,18 +24,18 @@ pub length_decimal_two : (n : ℕ) → 10 ≤ n → n < 100 → length (decimal 
 length_decimal_two n big small = rw (decimal_two n big small)
 
 -- a byte that is neither NUL nor above ASCII
-record IsPlain (byte : ℕ) : Type 0 where
+record IsPlainByte (byte : ℕ) : Type 0 where
   some : 0 < byte
   ascii : byte < 128
 
-plain_text : (bytes : List ℕ) → All IsPlain bytes → IsText bytes
+plain_text : (bytes : List ℕ) → All IsPlainByte bytes → IsText bytes
 plain_text bytes plain = record {
-  utf8 = IsUtf8-from_ascii bytes (IsAscii-from_all bytes (All-weaker IsPlain (λ byte. byte < 128) (λ byte p. p.ascii) bytes plain));
-  no_nul = All-weaker IsPlain (λ byte. byte ≢ 0) (λ byte p same. omega (arith, p.some, same)) bytes plain;
+  utf8 = IsUtf8-from_ascii bytes (IsAscii-from_all bytes (All-weaker IsPlainByte (λ byte. byte < 128) (λ byte p. p.ascii) bytes plain));
+  no_nul = All-weaker IsPlainByte (λ byte. byte ≢ 0) (λ byte p same. omega (arith, p.some, same)) bytes plain;
 }
 
-one_plain : (byte : ℕ) → 0 < byte → byte < 128 → All IsPlain (byte ∷ [])
-one_plain byte some ascii = All-cons IsPlain byte [] (record { some = some; ascii = ascii }) (All-nil IsPlain)
+one_plain : (byte : ℕ) → 0 < byte → byte < 128 → All IsPlainByte (byte ∷ [])
+one_plain byte some ascii = All-cons IsPlainByte byte [] (record { some = some; ascii = ascii }) (All-nil IsPlainByte)
 
 -- two texts in a row are a text
 pub text_append : (a b : List ℕ) → IsText a → IsText b → IsText (a ++ b)
@@ -51,7 +51,7 @@ decimal_is_text lane small = elim (cases_lt lane 10) [
   | inr two ↦
       let digits : decimal lane ≡ (48 + lane / 10) ∷ (48 + lane % 10) ∷ [] = decimal_two lane two (omega arith) in
       rw digits (record {
-        text = plain_text _ (All-cons IsPlain (48 + lane / 10) ((48 + lane % 10) ∷ []) (record { some = omega arith; ascii = omega arith }) (one_plain (48 + lane % 10) (omega arith) (omega arith)));
+        text = plain_text _ (All-cons IsPlainByte (48 + lane / 10) ((48 + lane % 10) ∷ []) (record { some = omega arith; ascii = omega arith }) (one_plain (48 + lane % 10) (omega arith) (omega arith)));
         short = omega arith;
       })
 ]

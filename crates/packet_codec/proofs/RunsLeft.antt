@@ -5,7 +5,7 @@ use Rattle.std.proofs.lemmas.List.Elements.{All-cons, All-head, All-tail}
 use Rattle.std.specs.Prelude.{IfNone, IsSome, IsTrue}
 use Rattle.sub_number.specs.Texts.{IsText, IsShortText}
 use Rattle.sub_number.proofs.NumberLemmas.{AreBytes}
-use Rattle.packet_codec.specs.Grammar.{Found, NotFound}
+use Rattle.packet_codec.specs.Grammar.{SpellsFront, NotFound}
 use Rattle.packet_codec.specs.Shapes.{ByteRun, ByteRuns, ShowsRuns, ShowsTags}
 use Rattle.packet_codec.specs.declared.parts.RunList.{RunList}
 use Rattle.packet_codec.proofs.GrammarLemmas.{found_same}
@@ -16,17 +16,17 @@ pub record Left (bytes : List ℕ) (count i : ℕ) (P : List (List ℕ) → Type
   pub runs : List (List ℕ)
   pub rest : List ℕ
   pub size : length runs + i ≡ count
-  pub found : Found ByteRuns bytes runs rest
+  pub found : SpellsFront ByteRuns bytes runs rest
   pub holds : P runs
 
 pub left_start : (bytes : List ℕ) (count : ℕ) (runs : List (List ℕ)) (P : List (List ℕ) → Type 0) → ShowsRuns count bytes runs → P runs → Left bytes count 0 P
 left_start bytes count runs P shown holds = record { runs = runs; rest = shown.0; size = omega (arith, shown.1.size); found = shown.1.found; holds = holds }
 
 -- the next one is a run
-next_found : (bytes : List ℕ) (count i : ℕ) (P : List (List ℕ) → Type 0) → i < count → (l : Left bytes count i P) → (run : List ℕ) × (others : List (List ℕ)) × (after : List ℕ) × (l.runs ≡ run ∷ others) × Found ByteRun bytes run after × Found ByteRuns after others l.rest
+next_found : (bytes : List ℕ) (count i : ℕ) (P : List (List ℕ) → Type 0) → i < count → (l : Left bytes count i P) → (run : List ℕ) × (others : List (List ℕ)) × (after : List ℕ) × (l.runs ≡ run ∷ others) × SpellsFront ByteRun bytes run after × SpellsFront ByteRuns after others l.rest
 next_found bytes count i P less l = go l.runs refl l.found
   where
-    go : (runs : List (List ℕ)) → l.runs ≡ runs → Found ByteRuns bytes runs l.rest → (run : List ℕ) × (others : List (List ℕ)) × (after : List ℕ) × (l.runs ≡ run ∷ others) × Found ByteRun bytes run after × Found ByteRuns after others l.rest
+    go : (runs : List (List ℕ)) → l.runs ≡ runs → SpellsFront ByteRuns bytes runs l.rest → (run : List ℕ) × (others : List (List ℕ)) × (after : List ℕ) × (l.runs ≡ run ∷ others) × SpellsFront ByteRun bytes run after × SpellsFront ByteRuns after others l.rest
     go [] e f = absurd (omega (arith, l.size, ap length e))
     go (run ∷ others) e f =
         let (g, u, p, q, v) = f.spelled in
@@ -37,7 +37,7 @@ left_none bytes count i P less l never =
     let next = next_found bytes count i P less l in
     never next.0 next.2 next.4
 
-pub left_next : (bytes after run : _) (count i : ℕ) (P Q : List (List ℕ) → Type 0) → AreBytes bytes → i < count → Left bytes count i P → Found ByteRun bytes run after → ((others : List (List ℕ)) → P (run ∷ others) → Q others) → Left after count (i + 1) Q
+pub left_next : (bytes after run : _) (count i : ℕ) (P Q : List (List ℕ) → Type 0) → AreBytes bytes → i < count → Left bytes count i P → SpellsFront ByteRun bytes run after → ((others : List (List ℕ)) → P (run ∷ others) → Q others) → Left after count (i + 1) Q
 left_next bytes after run count i P Q are less l found weaker =
     let next = next_found bytes count i P less l in
     let same = found_same ByteRun run_free bytes next.2 after next.0 run are next.4 found in
@@ -64,7 +64,7 @@ same_texts_start all = (λ h. h, λ h. h)
 pub same_texts_next : (all left : List (List ℕ)) (run : List ℕ) → IsText run → SameTexts all (run ∷ left) → SameTexts all left
 same_texts_next all left run is same = (λ h. same.0 (All-cons IsText run left is h), λ h. All-tail IsText run left (same.1 h))
 
-pub no_texts : (bytes after run : List ℕ) (count i : ℕ) (all : List (List ℕ)) → AreBytes bytes → i < count → Left bytes count i (SameTexts all) → Found ByteRun bytes run after → (IsText run → ⊥) → All IsText all → ⊥
+pub no_texts : (bytes after run : List ℕ) (count i : ℕ) (all : List (List ℕ)) → AreBytes bytes → i < count → Left bytes count i (SameTexts all) → SpellsFront ByteRun bytes run after → (IsText run → ⊥) → All IsText all → ⊥
 no_texts bytes after run count i all are less l found other texts =
     let next = next_found bytes count i (SameTexts all) less l in
     let same = found_same ByteRun run_free bytes next.2 after next.0 run are next.4 found in
@@ -72,7 +72,7 @@ no_texts bytes after run count i all are less l found other texts =
     other (rw (same.value) at (All-head IsText next.0 next.1 left))
 
 -- the next one of texts is one
-pub next_text : (bytes after run : List ℕ) (count i : ℕ) → AreBytes bytes → i < count → Left bytes count i (All IsShortText) → Found ByteRun bytes run after → IsShortText run
+pub next_text : (bytes after run : List ℕ) (count i : ℕ) → AreBytes bytes → i < count → Left bytes count i (All IsShortText) → SpellsFront ByteRun bytes run after → IsShortText run
 next_text bytes after run count i are less l found =
     let next = next_found bytes count i (All IsShortText) less l in
     let same = found_same ByteRun run_free bytes next.2 after next.0 run are next.4 found in
@@ -101,7 +101,7 @@ same_next texts all others i run text less is same before =
     ∙ ap (λ (t : List ℕ). take i texts ++ (t ∷ others)) (sym is ∙ sym same) ∙ before
 
 -- one of them is another
-pub no_same : (bytes after run text : List ℕ) (texts all : List (List ℕ)) (count i : ℕ) → AreBytes bytes → i < count → i < length texts → text ≡ get_or texts i text → Left bytes count i (SameBefore texts i all) → Found ByteRun bytes run after → (run ≡ text → ⊥) → all ≡ texts → ⊥
+pub no_same : (bytes after run text : List ℕ) (texts all : List (List ℕ)) (count i : ℕ) → AreBytes bytes → i < count → i < length texts → text ≡ get_or texts i text → Left bytes count i (SameBefore texts i all) → SpellsFront ByteRun bytes run after → (run ≡ text → ⊥) → all ≡ texts → ⊥
 no_same bytes after run text texts all count i are less in_texts is l found other same =
     let next = next_found bytes count i (SameBefore texts i all) less l in
     let at = found_same ByteRun run_free bytes next.2 after next.0 run are next.4 found in

@@ -7,7 +7,7 @@ use Rattle.std.proofs.lemmas.Nat.{be_bytes_4, from_be_bytes-to_be_bytes_4}
 use Rattle.sub_number.specs.Numbers.{SpellsNumber, BeginsWithNoNumber}
 use Rattle.sub_number.proofs.NumberLemmas.{AreBytes, are_bytes_take}
 use Rattle.packet_codec.specs.declared.stamp.Stamp.{Stamp}
-use Rattle.packet_codec.specs.Grammar.{Found, NotFound}
+use Rattle.packet_codec.specs.Grammar.{SpellsFront, NotFound}
 use Rattle.packet_codec.specs.Fields.{SpellsStamp}
 use Rattle.packet_codec.specs.Shapes.{ByteRun, ByteRuns, CountedRuns, NamedRun, BeginsWithRuns}
 use Rattle.packet_codec.proofs.GrammarLemmas.{are_front, are_rest, joined, regroup, same_front, IsPrefixFree, IsPrefixFreeBySize, number_free, pair_free, counted_free, exactly_free, found_same, found_are, found_counted, not_content}
@@ -60,15 +60,15 @@ no_number_found bytes none value rest s =
     let len : length bytes ≡ length s.front + length rest = ap length s.parts ∙ length-append s.front rest in
     none value (length s.front) (record { in_range = omega arith; narrow = s.spelled.few; spells = rw front s.spelled })
 
-pub run_past_end : (bytes middle : List ℕ) (n : ℕ) → AreBytes bytes → Found SpellsNumber bytes n middle → length middle < n → NotFound ByteRun bytes
+pub run_past_end : (bytes middle : List ℕ) (n : ℕ) → AreBytes bytes → SpellsFront SpellsNumber bytes n middle → length middle < n → NotFound ByteRun bytes
 run_past_end bytes middle n are found short = not_content length (λ bytes run. bytes ≡ run) bytes middle n are found (λ a rest size s.
     omega (arith, ap length s.parts, ap length s.spelled, length-append s.front rest))
 
-pub run_found : (bytes middle a rest : List ℕ) (n : ℕ) → Found SpellsNumber bytes n middle → n ≤ length middle → a ≡ take n middle → rest ≡ drop n middle → Found ByteRun bytes a rest
+pub run_found : (bytes middle a rest : List ℕ) (n : ℕ) → SpellsFront SpellsNumber bytes n middle → n ≤ length middle → a ≡ take n middle → rest ≡ drop n middle → SpellsFront ByteRun bytes a rest
 run_found bytes middle a rest n s fits a-is rest-is =
     found_counted length (λ bytes run. bytes ≡ run) bytes middle rest n a (rw a-is (length-take-le n middle fits)) s (record { front = a; parts = rw (a-is, rest-is) (sym (take-append-drop n middle)); spelled = refl })
 
-pub stamp_found : (bytes front middle rest : List ℕ) (stamp : Stamp) → AreBytes bytes → 4 ≤ length bytes → front ≡ take 4 bytes → middle ≡ drop 4 bytes → stamp.seconds ≡ from_be_bytes w32 front → Found SpellsNumber middle stamp.nanos rest → Found SpellsStamp bytes stamp rest
+pub stamp_found : (bytes front middle rest : List ℕ) (stamp : Stamp) → AreBytes bytes → 4 ≤ length bytes → front ≡ take 4 bytes → middle ≡ drop 4 bytes → stamp.seconds ≡ from_be_bytes w32 front → SpellsFront SpellsNumber middle stamp.nanos rest → SpellsFront SpellsStamp bytes stamp rest
 stamp_found bytes front middle rest stamp are long front-is middle-is seconds s =
     let len : length front ≡ 4 = ap length front-is ∙ length-take-le 4 bytes long in
     let four : (i : ℕ) → Fits w8 (get_or front i 0) = rw front-is (are_bytes_take 4 bytes are) in
@@ -82,7 +82,7 @@ stamp_found bytes front middle rest stamp are long front-is middle-is seconds s 
     }
 
 -- the seconds are in four bytes, and the nanoseconds behind them
-stamp_number : (bytes rest : List ℕ) (stamp : Stamp) → (s : Found SpellsStamp bytes stamp rest) → (4 ≤ length bytes) × Found SpellsNumber (drop 4 bytes) stamp.nanos rest
+stamp_number : (bytes rest : List ℕ) (stamp : Stamp) → (s : SpellsFront SpellsStamp bytes stamp rest) → (4 ≤ length bytes) × SpellsFront SpellsNumber (drop 4 bytes) stamp.nanos rest
 stamp_number bytes rest stamp s =
     let whole : bytes ≡ to_be_bytes w32 stamp.seconds ++ (s.spelled.nanos ++ rest) = regroup s.front (to_be_bytes w32 stamp.seconds) s.spelled.nanos rest bytes s.spelled.parts s.parts in
     let len : length (to_be_bytes w32 stamp.seconds) ≡ 4 = refl in (
@@ -105,7 +105,7 @@ runs_append : (f g : List ℕ) (runs : List (List ℕ)) (run : List ℕ) → Byt
 runs_append f g [] run s t = (g, [], rw s (sym (append-nil g)), t, refl)
 runs_append f g (a ∷ left) run (h, u, p, q, v) t = (h, u ++ g, ap (λ (l : List ℕ). l ++ g) p ∙ append_assoc h u g, q, runs_append u g left run v t)
 
-pub runs_more : (bytes middle rest : List ℕ) (i : ℕ) (runs : List (List ℕ)) (run : List ℕ) → BeginsWithRuns bytes i runs middle → Found ByteRun middle run rest → BeginsWithRuns bytes (i + 1) (runs ++ run ∷ []) rest
+pub runs_more : (bytes middle rest : List ℕ) (i : ℕ) (runs : List (List ℕ)) (run : List ℕ) → BeginsWithRuns bytes i runs middle → SpellsFront ByteRun middle run rest → BeginsWithRuns bytes (i + 1) (runs ++ run ∷ []) rest
 runs_more bytes middle rest i runs run s t = record {
   size = omega (arith, s.size, length-append runs (run ∷ []));
   found = record {
@@ -116,15 +116,15 @@ runs_more bytes middle rest i runs run s t = record {
 }
 
 -- where there are more runs than were read, there is a next one
-next_run : (f g bytes rest rest' : List ℕ) (runs others : List (List ℕ)) → AreBytes bytes → bytes ≡ f ++ rest → bytes ≡ g ++ rest' → length runs < length others → ByteRuns f runs → ByteRuns g others → (run : List ℕ) × (after : List ℕ) × Found ByteRun rest run after
+next_run : (f g bytes rest rest' : List ℕ) (runs others : List (List ℕ)) → AreBytes bytes → bytes ≡ f ++ rest → bytes ≡ g ++ rest' → length runs < length others → ByteRuns f runs → ByteRuns g others → (run : List ℕ) × (after : List ℕ) × SpellsFront ByteRun rest run after
 next_run f g bytes rest rest' [] [] are e e' less s t = absurd (omega arith)
 next_run f g bytes rest rest' (a ∷ left) [] are e e' less s t = absurd (omega arith)
 next_run f g bytes rest rest' [] (b ∷ bs) are e e' less s (h, u, p, q, v) =
     let whole : rest ≡ h ++ (u ++ rest') = rw s at (sym e) ∙ regroup g h u rest' bytes p e' in
     (b, u ++ rest', record { front = h; parts = whole; spelled = q })
 next_run f g bytes rest rest' (a ∷ left) (b ∷ bs) are e e' less (h, u, p, q, v) (h', u', p', q', v') =
-    let one : Found ByteRun bytes a (u ++ rest) = record { front = h; parts = regroup f h u rest bytes p e; spelled = q } in
-    let two : Found ByteRun bytes b (u' ++ rest') = record { front = h'; parts = regroup g h' u' rest' bytes p' e'; spelled = q' } in
+    let one : SpellsFront ByteRun bytes a (u ++ rest) = record { front = h; parts = regroup f h u rest bytes p e; spelled = q } in
+    let two : SpellsFront ByteRun bytes b (u' ++ rest') = record { front = h'; parts = regroup g h' u' rest' bytes p' e'; spelled = q' } in
     let same = found_same ByteRun run_free bytes (u ++ rest) (u' ++ rest') a b are one two in
     next_run u u' (u ++ rest) rest rest' left bs (found_are ByteRun bytes (u ++ rest) a are one) refl same.rest (omega arith) v v'
 
@@ -133,11 +133,11 @@ runs_stop bytes middle i count runs are less s never others rest t =
     let next = next_run s.found.front t.found.front bytes middle rest runs others are s.found.parts t.found.parts (omega (arith, s.size, t.size)) s.found.spelled t.found.spelled in
     never next.0 next.1 next.2
 
-pub no_counted_runs : (bytes middle : List ℕ) (count : ℕ) → AreBytes bytes → Found SpellsNumber bytes count middle → ((runs : List (List ℕ)) (rest : List ℕ) → BeginsWithRuns middle count runs rest → ⊥) → NotFound CountedRuns bytes
+pub no_counted_runs : (bytes middle : List ℕ) (count : ℕ) → AreBytes bytes → SpellsFront SpellsNumber bytes count middle → ((runs : List (List ℕ)) (rest : List ℕ) → BeginsWithRuns middle count runs rest → ⊥) → NotFound CountedRuns bytes
 no_counted_runs bytes middle count are found never =
     not_content length ByteRuns bytes middle count are found (λ runs rest size s. never runs rest (record { size = size; found = s }))
 
-pub counted_runs_found : (bytes middle rest : List ℕ) (count : ℕ) (runs : List (List ℕ)) → Found SpellsNumber bytes count middle → BeginsWithRuns middle count runs rest → Found CountedRuns bytes runs rest
+pub counted_runs_found : (bytes middle rest : List ℕ) (count : ℕ) (runs : List (List ℕ)) → SpellsFront SpellsNumber bytes count middle → BeginsWithRuns middle count runs rest → SpellsFront CountedRuns bytes runs rest
 counted_runs_found bytes middle rest count runs s t = found_counted length ByteRuns bytes middle rest count runs t.size s t.found
 
 -- any number is below 2 ^ 30

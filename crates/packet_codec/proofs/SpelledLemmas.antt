@@ -215,26 +215,26 @@ search_kinds : CanSearch Kind
 search_kinds = search_both search_flags (search_both search_flags (search_both search_flags (search_both search_flags (search_both search_flags (search_both search_flags (search_both search_flags (search_both search_flags search_statuses)))))))
 
 -- one after the other
-abbrev Behind : (List ℕ → Type 0) → (List ℕ → Type 0) → List ℕ → Type 0
-Behind P Q bytes = Parted (λ front rest. P front × Q rest) bytes
+abbrev OneBehindOther : (List ℕ → Type 0) → (List ℕ → Type 0) → List ℕ → Type 0
+OneBehindOther P Q bytes = Parted (λ front rest. P front × Q rest) bytes
 
-read_behind : (P Q : List ℕ → Type 0) → ((bytes : List ℕ) → Decided (P bytes)) → ((bytes : List ℕ) → Decided (Q bytes)) → (bytes : List ℕ) → Decided (Behind P Q bytes)
+read_behind : (P Q : List ℕ → Type 0) → ((bytes : List ℕ) → Decided (P bytes)) → ((bytes : List ℕ) → Decided (Q bytes)) → (bytes : List ℕ) → Decided (OneBehindOther P Q bytes)
 read_behind P Q first second bytes = decided_parts (λ front rest. P front × Q rest) (λ front rest. decided_both (first front) (second rest)) bytes
 
 abbrev FromFile : Kind → List ℕ → Type 0
-FromFile k = Behind (Optional SpellsFile k.1.1.1.1.0) (Optional SpellsText k.1.1.1.1.1.0)
+FromFile k = OneBehindOther (Optional SpellsFile k.1.1.1.1.0) (Optional SpellsText k.1.1.1.1.1.0)
 
 abbrev FromMime : Kind → List ℕ → Type 0
-FromMime k = Behind (Optional SpellsText k.1.1.1.0) (FromFile k)
+FromMime k = OneBehindOther (Optional SpellsText k.1.1.1.0) (FromFile k)
 
 abbrev FromTags : Kind → List ℕ → Type 0
-FromTags k = Behind (Optional SpellsTags k.1.1.0) (FromMime k)
+FromTags k = OneBehindOther (Optional SpellsTags k.1.1.0) (FromMime k)
 
 abbrev FromId : Kind → List ℕ → Type 0
-FromId k = Behind (Optional SpellsText k.1.0) (FromTags k)
+FromId k = OneBehindOther (Optional SpellsText k.1.0) (FromTags k)
 
 abbrev FromStamp : Kind → List ℕ → Type 0
-FromStamp k = Behind (Optional SpellsStamp k.0) (FromId k)
+FromStamp k = OneBehindOther (Optional SpellsStamp k.0) (FromId k)
 
 read_all : (k : Kind) (bytes : List ℕ) → Decided (FromStamp k bytes)
 read_all k =

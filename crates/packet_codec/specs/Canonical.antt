@@ -79,3 +79,7 @@ pub record IsEvent (e : Event) : Type 0 where
 pub record IsShortestSpelling (bytes : List ℕ) (e : Event) : Type 0 where
   pub spells : SpellsEvent bytes e
   pub least : (others : List ℕ) → SpellsEvent others e → length bytes ≤ length others
+
+-- the shortest packets of the events, one after another
+abbrev pub packets_of : List Event → List ℕ
+packets_of events = flat_map canonical events

@@ -7,14 +7,14 @@ abbrev pub AreBytes : List ℕ → Type 0
 AreBytes bytes = All (λ byte. byte < 256) bytes
 
 -- a front of the bytes spells the value, and the rest follows it
-pub record Found {A : Type 0} (Spells : List ℕ → A → Type 0) (bytes : List ℕ) (value : A) (rest : List ℕ) : Type 0 where
+pub record SpellsFront {A : Type 0} (Spells : List ℕ → A → Type 0) (bytes : List ℕ) (value : A) (rest : List ℕ) : Type 0 where
   pub front : List ℕ
   pub parts : bytes ≡ front ++ rest
   pub spelled : Spells front value
 
 -- no front of the bytes spells a value
 abbrev pub NotFound : {A : Type 0} → (List ℕ → A → Type 0) → List ℕ → Type 0
-NotFound {A} Spells bytes = (value : A) (rest : List ℕ) → Found Spells bytes value rest → ⊥
+NotFound {A} Spells bytes = (value : A) (rest : List ℕ) → SpellsFront Spells bytes value rest → ⊥
 
 -- one after the other
 pub record Pair {A B : Type 0} (First : List ℕ → A → Type 0) (Second : List ℕ → B → Type 0) (bytes : List ℕ) (value : A × B) : Type 0 where

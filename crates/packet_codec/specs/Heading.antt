@@ -2,8 +2,8 @@
 use Rattle.std.specs.Prelude.{ℕ, ◌≤◌, List, length}
 use Rattle.packet_codec.specs.Header.{BeginsWithPacket, NeedsMore}
 use Rattle.packet_codec.specs.Shapes.{HeaderStands}
-use Rattle.packet_codec.specs.declared.sight.Heading.{Heading}
-use Rattle.packet_codec.specs.declared.sight.Heading.TheVariants.{Whole, More, No}
+use Rattle.packet_codec.specs.declared.front_reader.Heading.{Heading}
+use Rattle.packet_codec.specs.declared.front_reader.Heading.TheVariants.{Whole, More, No}
 
 -- a header with as many bytes as it tells of, or a place where more bytes are asked for, or neither
 abbrev pub IsHeading : List ℕ → Heading → Type 0

@@ -1,7 +1,7 @@
 -- The event of a packet that is written again, with a change.
 use Rattle.std.specs.Prelude.{◌≡◌, ℕ, ◌<◌, Option, Some, List}
-use Rattle.packet_codec.specs.declared.change.Change.{Change}
-use Rattle.packet_codec.specs.declared.change.Change.TheVariants.{Nothing, Lane, Tags}
+use Rattle.packet_codec.specs.declared.event_change.Change.{Change}
+use Rattle.packet_codec.specs.declared.event_change.Change.TheVariants.{Nothing, Lane, Tags}
 use Rattle.packet_codec.specs.declared.header.Header.{Header}
 use Rattle.packet_codec.specs.declared.parts.Parts.{Parts}
 use Rattle.packet_codec.specs.declared.event.Event.{Event}

@@ -1,7 +1,7 @@
 -- The fields of a packet as their lengths tell, whatever the bytes of a text are.
 use Rattle.std.specs.Prelude.{◌≡◌, ◌≤◌, ◌+◌, take, drop, ◌-◌, slice_index_or, All, IfSome, option_map, Some, None, ℕ, ◌/◌, ◌%◌, ◌==◌, Bool, Option, List, [], ◌∷◌, ◌++◌, length}
 use Rattle.std.specs.Borrow.{Bor}
-use Rattle.packet_codec.specs.Grammar.{Found, Pair, Counted, Flagged}
+use Rattle.packet_codec.specs.Grammar.{SpellsFront, Pair, Counted, Flagged}
 use Rattle.packet_codec.specs.Fields.{SpellsStamp}
 use Rattle.sub_number.specs.Numbers.{SpellsNumber}
 use Rattle.packet_codec.specs.Packet.{signature}
@@ -112,7 +112,7 @@ FieldShapes first second = Pair (StampShape first) (FromId first second)
 -- the bytes begin with so many runs
 pub record BeginsWithRuns (bytes : List ℕ) (count : ℕ) (runs : List (List ℕ)) (rest : List ℕ) : Type 0 where
   pub size : length runs ≡ count
-  pub found : Found ByteRuns bytes runs rest
+  pub found : SpellsFront ByteRuns bytes runs rest
 
 -- the runs that stand there
 abbrev pub ShowsRuns : ℕ → List ℕ → List (List ℕ) → Type 0

@@ -6,7 +6,7 @@ ghost use Rattle.packet_codec.specs.Packet.{SpellsEvent};
 ghost use Rattle.packet_codec.specs.Shapes.{ShowsRuns, ShowsTags, bytes_of, file_of};
 ghost use Rattle.packet_codec.specs.declared.event.Event.{Event};
 
-use crate::decoding::{optional_tags, optional_text, status_of};
+use crate::decoder::{optional_tags, optional_text, status_of};
 use crate::packet::Packet;
 use crate::parts::{FileBytes, RunList, run_at};
 use crate::stamp::Stamp;

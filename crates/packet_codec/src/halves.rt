@@ -10,7 +10,7 @@ ghost use Rattle.packet_codec.specs.Routing.{under};
 ghost use Rattle.packet_codec.specs.Shapes.{ShowsParts, contents_of, file_of, file_from};
 ghost use Rattle.packet_codec.specs.declared.event.Event.{Event};
 
-use crate::change::Change;
+use crate::event_change::Change;
 use crate::header::Header;
 use crate::packet::Packet;
 use crate::parts::{FileBytes, Parts};

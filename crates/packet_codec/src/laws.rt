@@ -13,7 +13,7 @@ pub fn packets_are_one_event()
     ensures no_front { (a b x y : List ℕ) (d e : Event) → AreBytes a → AreBytes b → SpellsEvent a d → SpellsEvent b e → a ++ x ≡ b ++ y → a ≡ b }
 {}
 
-/// The answers of `look` exclude each other: of any bytes one is true at most. That one is, its contract tells.
+/// The answers of `look_at_front` exclude each other: of any bytes one is true at most. That one is, its contract tells.
 pub fn fronts_are_one()
     ensures { (bytes : List ℕ) (one other : Front) → AreBytes bytes → LooksLike bytes one → LooksLike bytes other → one ≡ other }
 {}

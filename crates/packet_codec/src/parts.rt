@@ -31,7 +31,7 @@ pub struct Parts<'a> {
 
 ghost use Rattle.std.specs.Prelude.{◌≡◌, Option, List, ℕ, IfSome, IfNone};
 ghost use Rattle.sub_number.specs.Numbers.{SpellsNumber};
-ghost use Rattle.packet_codec.specs.Grammar.{Found, NotFound, Flagged};
+ghost use Rattle.packet_codec.specs.Grammar.{SpellsFront, NotFound, Flagged};
 ghost use Rattle.packet_codec.specs.Fields.{SpellsStamp};
 ghost use Rattle.packet_codec.specs.declared.stamp.Stamp.{Stamp};
 ghost use Rattle.packet_codec.specs.Shapes.{ByteRun, CountedRuns, NamedRun, BeginsWithRuns, ShowsRuns, ShowsOptional, Form, ShowsParts, FieldShapes, Contents};
@@ -39,7 +39,7 @@ ghost use Rattle.packet_codec.specs.Shapes.{ByteRun, CountedRuns, NamedRun, Begi
 /// A number, and the bytes behind it.
 #[inline(always)]
 fn number_at(bytes: &[u8]) -> Option<(u32, &[u8])>
-    ensures found { IfSome result (λ r. Found SpellsNumber bytes.now r.0 r.1.now) }
+    ensures found { IfSome result (λ r. SpellsFront SpellsNumber bytes.now r.0 r.1.now) }
     ensures none { IfNone result (NotFound SpellsNumber bytes.now) }
 {
     let (value, size) = read_number(bytes, Width::Four)?;
@@ -49,7 +49,7 @@ fn number_at(bytes: &[u8]) -> Option<(u32, &[u8])>
 /// The run of bytes behind its length, and the bytes behind it.
 #[inline(always)]
 pub fn run_at(bytes: &[u8]) -> Option<(&[u8], &[u8])>
-    ensures found { IfSome result (λ r. Found ByteRun bytes.now r.0.now r.1.now) }
+    ensures found { IfSome result (λ r. SpellsFront ByteRun bytes.now r.0.now r.1.now) }
     ensures none { IfNone result (NotFound ByteRun bytes.now) }
 {
     let (len, rest) = number_at(bytes)?;
@@ -81,7 +81,7 @@ trait Field<'a>: Sized {
 
     /// The field, and the bytes behind it.
     fn read_at(bytes: &'a [u8]) -> Option<(Self, &'a [u8])>
-        ensures found { IfSome result (λ r. (told : form.Told) × Found form.spells bytes.now told r.1.now × form.shows r.0 told) }
+        ensures found { IfSome result (λ r. (told : form.Told) × SpellsFront form.spells bytes.now told r.1.now × form.shows r.0 told) }
         ensures none { IfNone result (NotFound form.spells bytes.now) };
 }
 
@@ -138,7 +138,7 @@ impl<'a> Field<'a> for FileBytes<'a> {
 /// The field where the flag is set, and the bytes behind it.
 #[inline(always)]
 fn where_set<'a, F: Field<'a>>(set: bool, bytes: &'a [u8]) -> Option<(Option<F>, &'a [u8])>
-    ensures found { IfSome result (λ r. (told : Option F.form.Told) × Found (Flagged set F.form.spells) bytes.now told r.1.now × ShowsOptional F.form.shows r.0 told) }
+    ensures found { IfSome result (λ r. (told : Option F.form.Told) × SpellsFront (Flagged set F.form.spells) bytes.now told r.1.now × ShowsOptional F.form.shows r.0 told) }
     ensures none { IfNone result (NotFound (Flagged set F.form.spells) bytes.now) }
 {
     if !set {

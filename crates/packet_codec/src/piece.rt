@@ -7,7 +7,7 @@ ghost use Rattle.packet_codec.specs.Pieces.{event_of_piece};
 ghost use Rattle.packet_codec.specs.Routing.{under};
 ghost use Rattle.packet_codec.specs.Shapes.{ShowsParts, contents_of};
 
-use crate::change::Change;
+use crate::event_change::Change;
 use crate::header::Header;
 use crate::parts::{FileBytes, Parts};
 use crate::respelled_bytes::put_changed;

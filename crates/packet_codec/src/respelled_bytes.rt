@@ -11,11 +11,11 @@ ghost use Rattle.packet_codec.specs.Shapes.{ShowsRuns, ShowsTags, ShowsParts, by
 ghost use Rattle.packet_codec.specs.Retagging.{if_any, lent_bytes};
 ghost use Rattle.packet_codec.specs.Respelled.{AreOf, IsChange, changed, route_after, tags_after};
 
-use crate::change::Change;
-use crate::encoding::{bit, put_bytes, put_head, put_stamp};
+use crate::encoder::{bit, put_bytes, put_head, put_stamp};
+use crate::event_change::Change;
 use crate::header::Header;
+use crate::lane_route::put_route;
 use crate::parts::{FileBytes, Parts, RunList, run_at};
-use crate::routing::put_route;
 use crate::sizes::route_length;
 use sub_number::{NoMemory, crc_of, write_number};
 

@@ -9,7 +9,7 @@ ghost use Rattle.packet_codec.specs.Retagging.{if_any, lent_bytes, with_tags};
 ghost use Rattle.packet_codec.specs.Respelled.{IsChange, changed};
 ghost use Rattle.packet_codec.specs.declared.event.Event.{Event};
 
-use crate::change::Change;
+use crate::event_change::Change;
 use crate::header::LARGEST_PACKET;
 use crate::packet::Packet;
 use crate::parts::run_at;

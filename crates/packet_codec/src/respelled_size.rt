@@ -8,7 +8,7 @@ ghost use Rattle.packet_codec.specs.Shapes.{ShowsRuns, ShowsTags, ShowsParts, by
 ghost use Rattle.packet_codec.specs.Retagging.{if_any, lent_bytes};
 ghost use Rattle.packet_codec.specs.Respelled.{IsChange, changed, route_after, tags_after};
 
-use crate::change::Change;
+use crate::event_change::Change;
 use crate::parts::{FileBytes, Parts, RunList, run_at};
 use crate::sizes::{bytes_size, count_size, route_size, stamp_size};
 

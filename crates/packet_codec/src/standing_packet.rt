@@ -1,7 +1,7 @@
 //! The packet that is known to stand at the front of some bytes.
 
 ghost use Rattle.std.specs.Prelude.{◌≡◌, ◌≤◌, ◌<◌, List, ℕ, length};
-ghost use Rattle.packet_codec.specs.Grammar.{Found};
+ghost use Rattle.packet_codec.specs.Grammar.{SpellsFront};
 ghost use Rattle.packet_codec.specs.Packet.{SpellsEvent};
 ghost use Rattle.packet_codec.specs.declared.event.Event.{Event};
 
@@ -12,8 +12,8 @@ use crate::packet::{Packet, known_packet};
 /// again. It takes no memory.
 #[inline(always)]
 pub fn front_packet(bytes: &[u8]) -> Packet<'_>
-    requires { (event : Event) × (behind : List ℕ) × Found SpellsEvent bytes.now event behind }
-    ensures only { (event : Event) (behind : List ℕ) → (found : Found SpellsEvent bytes.now event behind) → result ≡ found.front }
+    requires { (event : Event) × (behind : List ℕ) × SpellsFront SpellsEvent bytes.now event behind }
+    ensures only { (event : Event) (behind : List ℕ) → (found : SpellsFront SpellsEvent bytes.now event behind) → result ≡ found.front }
     ensures size { (0 < length result) × (length result ≤ length bytes.now) }
 {
     let header = header_at(bytes).unwrap();

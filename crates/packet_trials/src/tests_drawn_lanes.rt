@@ -1,6 +1,6 @@
 //! Draws and outputs of known seeds.
 
-use drawn_lanes::{Draws, plans};
+use drawn_lanes::{Draws, drawn_plans};
 use edge_io::{Finish, Plan};
 use std::test::Fail;
 
@@ -35,7 +35,7 @@ fn prints(plan: &Plan, bytes: &[u8]) -> bool {
 
 #[test]
 fn two_lanes_of_two_tests_are_printed(rt: HostRuntime) -> Result<(), Fail> {
-    let plans = plans(rt.alloc(), 7, 2, 2).map_err(|_| "no memory")?;
+    let plans = drawn_plans(rt.alloc(), 7, 2, 2).map_err(|_| "no memory")?;
     assert_eq!(rt; plans.len(), 2);
     assert!(rt; prints(plans.get(0).ok_or("no lane")?, FIRST_LANE));
     assert!(rt; prints(plans.get(1).ok_or("no lane")?, SECOND_LANE));

@@ -4,7 +4,9 @@ ghost use Rattle.std.specs.Prelude.{IfSome};
 ghost use Rattle.packet_codec.specs.Canonical.{Fits};
 ghost use Rattle.packet_codec.specs.Packet.{IsPacket};
 
-use packet_codec::{Event, FilePart, Front, Stamp, Status, decode, encode, fits, look, size};
+use packet_codec::{
+    Event, FilePart, Front, Stamp, Status, decode, encode, fits, look_at_front, size,
+};
 use std::alloc::Global;
 use sub_number::{Bytes, Text};
 
@@ -27,7 +29,7 @@ fn decoded(alloc: Global, packet: &[u8]) -> Option<Event>
 fn read(alloc: Global, bytes: &[u8]) -> Option<Event>
     ensures { IfSome result Fits }
 {
-    match look(bytes) {
+    match look_at_front(bytes) {
         Front::Packet(size) => decoded(alloc, &bytes[..size]),
         _ => None,
     }
@@ -107,7 +109,7 @@ fn file_packet(alloc: Global, count: usize) -> Option<Vec<u8>> {
 
 fn is_more_without_its_last(packet: &[u8]) -> bool {
     match packet.split_last() {
-        Some((_, front)) => look(front) == Front::More,
+        Some((_, front)) => look_at_front(front) == Front::More,
         None => false,
     }
 }
@@ -115,7 +117,7 @@ fn is_more_without_its_last(packet: &[u8]) -> bool {
 // Whether a packet of this size is one, is none without its last byte, and is written again as it is.
 fn is_packet_of(alloc: Global, packet: &[u8], size: usize) -> bool {
     packet.len() == size
-        && look(packet) == Front::Packet(size)
+        && look_at_front(packet) == Front::Packet(size)
         && is_more_without_its_last(packet)
         && is_written_as(alloc, packet, packet) == Some(true)
 }

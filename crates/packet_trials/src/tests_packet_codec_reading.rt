@@ -1,4 +1,6 @@
-use packet_codec::{Event, FilePart, Front, Packet, Status, Tags, decode, front_packet, look};
+use packet_codec::{
+    Event, FilePart, Front, Packet, Status, Tags, decode, front_packet, look_at_front,
+};
 use std::alloc::Global;
 use std::process::Abort;
 use sub_number::Text;
@@ -24,7 +26,7 @@ const EVERY_FIELD: &[u8] =
 const EMPTY_PARTS: &[u8] = b"\xb3\x2c\xe0\x0e\x00\x00\x00\x00\x00\x00\x31\x61\x77\xc7";
 
 fn read(alloc: Global, bytes: &[u8]) -> Option<Event> {
-    match look(bytes) {
+    match look_at_front(bytes) {
         Front::Packet(size) => decode(alloc, &bytes[..size]).ok(),
         _ => None,
     }
@@ -103,7 +105,7 @@ fn status_of(alloc: Global, packet: &Packet<'_>) -> Option<Status> {
 
 // The size and the status of the packet at the front, where one stands there.
 fn read_front(alloc: Global, bytes: &[u8]) -> Option<(usize, Status)> {
-    let Front::Packet(_) = look(bytes) else {
+    let Front::Packet(_) = look_at_front(bytes) else {
         return None;
     };
     let packet = front_packet(bytes);
@@ -195,21 +197,21 @@ fn empty_parts_are_read(rt: HostRuntime) {
 // Each front of the packet that has so many bytes or more may become one.
 fn fronts_may_become_one<R: Abort>(rt: &R, packet: &[u8], shortest: usize) {
     for size in shortest..packet.len() {
-        assert_eq!(rt; look(&packet[..size]), Front::More, "{size}");
+        assert_eq!(rt; look_at_front(&packet[..size]), Front::More, "{size}");
     }
 }
 
 #[test]
 fn each_front_of_a_packet_may_become_one(rt: HostRuntime) {
     fronts_may_become_one(&rt, EVERY_FIELD, 0);
-    assert_eq!(rt; look(EVERY_FIELD), Front::Packet(45));
+    assert_eq!(rt; look_at_front(EVERY_FIELD), Front::Packet(45));
     assert_eq!(rt;
-        look(b"\xb3\x21\x10\x08\x53\x15\x88\xdca"),
+        look_at_front(b"\xb3\x21\x10\x08\x53\x15\x88\xdca"),
         Front::Packet(8)
     );
     fronts_may_become_one(&rt, LONG_FOO, 4);
-    assert_eq!(rt; look(b"\xb3\x29\x03\x08"), Front::More);
-    assert_eq!(rt; look(b"\xb3\x29\x03\x40"), Front::More);
+    assert_eq!(rt; look_at_front(b"\xb3\x29\x03\x08"), Front::More);
+    assert_eq!(rt; look_at_front(b"\xb3\x29\x03\x40"), Front::More);
 }
 
 // What has one fault each, and its bytes.
@@ -280,6 +282,6 @@ const REFUSED: [(&str, &[u8]); 22] = [
 #[test]
 fn what_cannot_be_a_packet_is_refused(rt: HostRuntime) {
     for &(what, bytes) in &REFUSED {
-        assert_eq!(rt; look(bytes), Front::No, "{what}");
+        assert_eq!(rt; look_at_front(bytes), Front::No, "{what}");
     }
 }

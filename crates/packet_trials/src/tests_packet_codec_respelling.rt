@@ -2,7 +2,7 @@
 
 ghost use Rattle.std.specs.Prelude.{◌<◌};
 
-use packet_codec::{Front, Packet, Sight, Status, Tags, known_packet, look, see};
+use packet_codec::{Front, Packet, Sight, Status, Tags, known_packet, look_at_front, see_front};
 use std::alloc::Global;
 use sub_number::Text;
 
@@ -31,7 +31,7 @@ fn begun(alloc: Global) -> Option<Vec<u8>> {
 fn put_under(bytes: &[u8], lane: u32, out: &mut Vec<u8>) -> bool
     requires { lane < 64 }
 {
-    match see(bytes) {
+    match see_front(bytes) {
         Sight::Packet(packet) => packet.put_under(lane, out).ok() == Some(true),
         _ => false,
     }
@@ -59,7 +59,7 @@ fn packets_are_put_under_a_lane(rt: HostRuntime) {
 }
 
 fn put_with_tags(bytes: &[u8], tags: &[&[u8]], out: &mut Vec<u8>) -> bool {
-    match see(bytes) {
+    match see_front(bytes) {
         Sight::Packet(packet) => packet.put_with_tags(tags, out).ok() == Some(true),
         _ => false,
     }
@@ -90,7 +90,7 @@ fn packets_get_other_tags(rt: HostRuntime) {
 }
 
 fn put_shortest(bytes: &[u8], out: &mut Vec<u8>) -> bool {
-    match see(bytes) {
+    match see_front(bytes) {
         Sight::Packet(packet) => packet.put_shortest(out).is_ok(),
         _ => false,
     }
@@ -146,7 +146,7 @@ fn is_put_whole(packet: &Packet<'_>, bytes: &[u8], out: &mut Vec<u8>) -> bool {
 }
 
 fn has_no_room(bytes: &[u8], out: &mut Vec<u8>) -> bool {
-    match see(bytes) {
+    match see_front(bytes) {
         Sight::Packet(packet) => refuses_more(&packet, out) && is_put_whole(&packet, bytes, out),
         _ => false,
     }
@@ -176,7 +176,7 @@ fn lends(alloc: Global, packet: &Packet<'_>, wanted: Option<&[&[u8]]>) -> Option
 }
 
 fn tag_list_is(alloc: Global, bytes: &[u8], wanted: Option<&[&[u8]]>) -> Option<bool> {
-    match see(bytes) {
+    match see_front(bytes) {
         Sight::Packet(packet) => lends(alloc, &packet, wanted),
         _ => None,
     }
@@ -238,7 +238,7 @@ fn has_every_field(alloc: Global, packet: &Packet<'_>) -> bool {
 }
 
 fn tells_every_field(alloc: Global, bytes: &[u8]) -> bool {
-    match look(bytes) {
+    match look_at_front(bytes) {
         Front::Packet(size) => has_every_field(alloc, &known_packet(&bytes[..size])),
         _ => false,
     }

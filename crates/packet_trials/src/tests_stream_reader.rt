@@ -1,7 +1,7 @@
 ghost use Rattle.std.specs.Prelude.{◌≡◌, false, IfOk};
 
 use crate::streams::pieces;
-use packet_codec::{Event, Front, Status, look};
+use packet_codec::{Event, Front, Status, look_at_front};
 use std::alloc::Global;
 use std::process::Abort;
 use std::test::Fail;
@@ -259,7 +259,7 @@ fn has_64_foreign(alloc: Global, stream: &[u8]) -> Result<bool, Fail> {
 
 fn is_read_whole_and_cut<R: AllocGlobal + Abort>(rt: &R, stream: &mut Vec<u8>) -> Result<(), Fail> {
     assert_eq!(rt; stream.len(), 4_194_303);
-    assert_eq!(rt; look(stream), Front::Packet(4_194_303));
+    assert_eq!(rt; look_at_front(stream), Front::Packet(4_194_303));
     assert!(rt; has_one_event(rt.alloc(), stream)?);
     stream.pop();
     assert!(rt; has_64_foreign(rt.alloc(), stream)?);

@@ -13,7 +13,7 @@ use Rattle.std.proofs.lemmas.Nat.{mod_below}
 use Rattle.std.proofs.lemmas.List.FromFn.{get_or-range_with_len, length-range_with_len}
 use Rattle.std.proofs.Math.Nat.{mul-le-mul_left}
 use Rattle.partition_times.specs.Names.{members, group_names}
-use Rattle.partition_times.specs.Shares.{Ids, Times, known_time, is_some_known, has_less, least_share, given, given_to_least, given_in_turn, Rank, has_time, ranks, timed_groups, untimed_groups, shares_of}
+use Rattle.partition_times.specs.Shares.{Ids, Times, known_time, is_some_known, has_less, least_share, with_group, given_to_least, given_in_turn, Rank, has_time, ranks, timed_groups, untimed_groups, shares_of}
 use Rattle.partition_times.specs.Bound.{largest_share, longest_group, assigned_share, division, IsWithinBound, IsNearBest}
 use Rattle.partition_times.proofs.ShareLemmas.{length-given, length-to_least}
 use Rattle.partition_times.proofs.SumLemmas.{sum_of_parts}
@@ -124,11 +124,11 @@ module _ (times : Times) where
   abbrev AreBounded : ℕ → ℕ → List Ids → Type 0
   AreBounded k longest shares = AllByRecursion (λ share. (k + 1) * known_time times share ≤ sum_by (known_time times) shares + k * longest) shares
 
-  time_grown : (shares : List Ids) (index : ℕ) (group : Ids) → index < length shares → sum_by (known_time times) (given shares index group) ≡ sum_by (known_time times) shares + known_time times group
+  time_grown : (shares : List Ids) (index : ℕ) (group : Ids) → index < length shares → sum_by (known_time times) (with_group shares index group) ≡ sum_by (known_time times) shares + known_time times group
   time_grown shares index group below =
       omega (arith, sum_by-set (known_time times) shares index (get_or shares index [] ++ group) [] below, sum_by-append (λ id. unwrap_or (times id) 0) (get_or shares index []) group)
 
-  least_bounded : (k longest : ℕ) (shares : List Ids) (group : Ids) → length shares ≡ k + 1 → known_time times group ≤ longest → AreBounded k longest shares → AreBounded k longest (given shares (least_share times shares) group)
+  least_bounded : (k longest : ℕ) (shares : List Ids) (group : Ids) → length shares ≡ k + 1 → known_time times group ≤ longest → AreBounded k longest shares → AreBounded k longest (with_group shares (least_share times shares) group)
   least_bounded k longest shares group long short bounded =
       let index = least_share times shares in
       let below : index < length shares = least_below times shares (omega arith) in
@@ -136,15 +136,15 @@ module _ (times : Times) where
       let mean : (k + 1) * known_time times (get_or shares index []) ≤ sum_by (known_time times) shares = subst (λ n. n * known_time times (get_or shares index []) ≤ sum_by (known_time times) shares) long (sum_at_least (known_time times) (known_time times (get_or shares index [])) shares (least_time shares)) in
       let others : k * known_time times group ≤ k * longest = mul-le-mul_left k short in
       let whole : known_time times (get_or shares index [] ++ group) ≡ known_time times (get_or shares index []) + known_time times group = sum_by-append (λ id. unwrap_or (times id) 0) (get_or shares index []) group in
-      all_set (λ share. (k + 1) * known_time times share ≤ sum_by (known_time times) (given shares index group) + k * longest) shares index (get_or shares index [] ++ group)
+      all_set (λ share. (k + 1) * known_time times share ≤ sum_by (known_time times) (with_group shares index group) + k * longest) shares index (get_or shares index [] ++ group)
       (rw (whole, grown) (omega (arith, mean, others)))
-      (all_weaker (λ share. (k + 1) * known_time times share ≤ sum_by (known_time times) shares + k * longest) (λ share. (k + 1) * known_time times share ≤ sum_by (known_time times) (given shares index group) + k * longest)
+      (all_weaker (λ share. (k + 1) * known_time times share ≤ sum_by (known_time times) shares + k * longest) (λ share. (k + 1) * known_time times share ≤ sum_by (known_time times) (with_group shares index group) + k * longest)
       (λ share within. rw grown (omega (arith, within))) shares bounded)
 
   pub to_least_bounded : (k longest : ℕ) (groups shares : List Ids) → length shares ≡ k + 1 → AllByRecursion (λ group. known_time times group ≤ longest) groups → AreBounded k longest shares → AreBounded k longest (given_to_least times shares groups)
   to_least_bounded k longest [] shares long short bounded = bounded
   to_least_bounded k longest (group ∷ groups) shares long short bounded =
-      to_least_bounded k longest groups (given shares (least_share times shares) group) (length-given shares (least_share times shares) group ∙ long) short.1 (least_bounded k longest shares group long short.0 bounded)
+      to_least_bounded k longest groups (with_group shares (least_share times shares) group) (length-given shares (least_share times shares) group ∙ long) short.1 (least_bounded k longest shares group long short.0 bounded)
 
   -- groups without a known time change no time
   no_time : (group : Ids) → is_some_known times group ≡ false → known_time times group ≡ 0
@@ -155,11 +155,11 @@ module _ (times : Times) where
       by_case rest (Some t) is none = absurd (true≢false none)
       by_case rest None is none = sum_by-cons (λ i. unwrap_or (times i) 0) id group ∙ ap₂ ◌+◌ (ap (λ o. unwrap_or o 0) is) (rest none)
 
-  turn_bounded : (k longest index : ℕ) (shares : List Ids) (group : Ids) → index < length shares → known_time times group ≡ 0 → AreBounded k longest shares → AreBounded k longest (given shares index group)
+  turn_bounded : (k longest index : ℕ) (shares : List Ids) (group : Ids) → index < length shares → known_time times group ≡ 0 → AreBounded k longest shares → AreBounded k longest (with_group shares index group)
   turn_bounded k longest index shares group below none bounded =
-      let same : sum_by (known_time times) (given shares index group) ≡ sum_by (known_time times) shares = omega (arith, time_grown shares index group below) in
+      let same : sum_by (known_time times) (with_group shares index group) ≡ sum_by (known_time times) shares = omega (arith, time_grown shares index group below) in
       let whole : known_time times (get_or shares index [] ++ group) ≡ known_time times (get_or shares index []) = omega (arith, sum_by-append (λ id. unwrap_or (times id) 0) (get_or shares index []) group) in
-      all_set (λ share. (k + 1) * known_time times share ≤ sum_by (known_time times) (given shares index group) + k * longest) shares index (get_or shares index [] ++ group)
+      all_set (λ share. (k + 1) * known_time times share ≤ sum_by (known_time times) (with_group shares index group) + k * longest) shares index (get_or shares index [] ++ group)
       (rw (whole, same) (all_at (λ share. (k + 1) * known_time times share ≤ sum_by (known_time times) shares + k * longest) shares index [] below bounded))
       (rw same bounded)
 
@@ -167,7 +167,7 @@ module _ (times : Times) where
   in_turn_bounded k longest turn [] shares long none bounded = bounded
   in_turn_bounded k longest turn (group ∷ groups) shares long none bounded =
       let index = turn % length shares in
-      in_turn_bounded k longest (turn + 1) groups (given shares index group) (length-given shares index group ∙ long) none.1 (turn_bounded k longest index shares group (mod_below turn (length shares) (omega arith)) none.0 bounded)
+      in_turn_bounded k longest (turn + 1) groups (with_group shares index group) (length-given shares index group ∙ long) none.1 (turn_bounded k longest index shares group (mod_below turn (length shares) (omega arith)) none.0 bounded)
 
   start_bounded : (k longest n : ℕ) → AllByRecursion (λ share. (k + 1) * known_time times share ≤ sum_by (known_time times) (replicate {A = Ids} n []) + k * longest) (replicate {A = Ids} n [])
   start_bounded k longest n = empty (sum_by (known_time times) (replicate {A = Ids} n []) + k * longest) n

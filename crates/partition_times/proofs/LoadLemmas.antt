@@ -12,7 +12,7 @@ use Rattle.std.specs.BTreeSet.{insert_key}
 use Rattle.std.proofs.lemmas.List.{get_or_default, get_or-set_same, get_or-set_other, length-set, length-replicate, length-append}
 use Rattle.std.proofs.lemmas.List.Folds.{list_any_at, list_any_none}
 use Rattle.std.proofs.lemmas.List.Sums.{sum_by-append}
-use Rattle.partition_times.specs.Shares.{Ids, Times, known_time, has_less, least_share, given}
+use Rattle.partition_times.specs.Shares.{Ids, Times, known_time, has_less, least_share, with_group}
 use Rattle.partition_times.specs.Loads.{load_at, load_cmp, Has, IsLoad, IsQueue}
 use Rattle.partition_times.specs.declared.shares.Load.{Load}
 
@@ -137,9 +137,9 @@ module _ (times : Times) where
         (λ k more below. none_behind (get_or shares least.index []) (get_or shares k []) least.index k (first_of k below (λ same. omega arith)))
 
     -- the load of another share is as before when ids are given to the first
-    same_load : (ids : Ids) (k : ℕ) → k ≢ least.index → load_at times (given shares least.index ids) k ≡ load_at times shares k
+    same_load : (ids : Ids) (k : ℕ) → k ≢ least.index → load_at times (with_group shares least.index ids) k ≡ load_at times shares k
     same_load ids k other =
-        let same : get_or (given shares least.index ids) k [] ≡ get_or shares k [] = get_or-set_other shares least.index k (get_or shares least.index [] ++ ids) [] other in
+        let same : get_or (with_group shares least.index ids) k [] ≡ get_or shares k [] = get_or-set_other shares least.index k (get_or shares least.index [] ++ ids) [] other in
         rw same refl
 
     -- no load behind the first is that of the same share
@@ -155,22 +155,22 @@ module _ (times : Times) where
           | inr (time, inr (count, index)) ↦ omega arith
         ]
 
-    pub after_given : (ids : Ids) (load : Load) → load ≡ load_at times (given shares least.index ids) least.index → load.time ≤ load.count * 2 ^ 64 → IsQueue times (given shares least.index ids) (insert_key load_cmp rest load)
+    pub after_given : (ids : Ids) (load : Load) → load ≡ load_at times (with_group shares least.index ids) least.index → load.time ≤ load.count * 2 ^ 64 → IsQueue times (with_group shares least.index ids) (insert_key load_cmp rest load)
     after_given ids load is small =
         let in_range : least.index < length shares = queue.each.0.in_range in
-        let long : length (given shares least.index ids) ≡ length shares = length-set shares least.index (get_or shares least.index [] ++ ids) in
+        let long : length (with_group shares least.index ids) ≡ length shares = length-set shares least.index (get_or shares least.index [] ++ ids) in
         let index : load.index ≡ least.index = ap (λ (l : Load). l.index) is in
         record {
-          each = all_inserted (IsLoad times (given shares least.index ids)) rest load
-              (record { in_range = omega arith; is = is ∙ ap (load_at times (given shares least.index ids)) (sym index); small = small })
-              (all_both (IsLoad times shares) (λ l. load_cmp least l ≡ Less) (IsLoad times (given shares least.index ids))
+          each = all_inserted (IsLoad times (with_group shares least.index ids)) rest load
+              (record { in_range = omega arith; is = is ∙ ap (load_at times (with_group shares least.index ids)) (sym index); small = small })
+              (all_both (IsLoad times shares) (λ l. load_cmp least l ≡ Less) (IsLoad times (with_group shares least.index ids))
               (λ l one behind. record {
                 in_range = omega (arith, one.in_range);
                 is = one.is ∙ sym (same_load ids l.index (other_share l one behind));
                 small = one.small;
               }) rest queue.each.1 above);
           whole = λ k below. elim (nat_cases k least.index) [
-            | inl same ↦ subst (λ n. Has (insert_key load_cmp rest load) (load_at times (given shares least.index ids) n)) (sym same) (subst (Has (insert_key load_cmp rest load)) is (has_inserted rest load))
+            | inl same ↦ subst (λ n. Has (insert_key load_cmp rest load) (load_at times (with_group shares least.index ids) n)) (sym same) (subst (Has (insert_key load_cmp rest load)) is (has_inserted rest load))
             | inr other ↦ subst (Has (insert_key load_cmp rest load)) (sym (same_load ids k other)) (still_has rest load (load_at times shares k) (in_rest k (omega arith) other))
           ];
         }
@@ -238,9 +238,9 @@ fits_128 times shares least ids now time load grown long small =
     omega (arith, load.small)
 
 -- the load of the share that has grown
-pub new_load : (times : Times) (shares : List Ids) (least : Load) (ids now : Ids) (time : ℕ) → IsLoad times shares least → now ≡ get_or shares least.index [] ++ ids → time ≡ known_time times ids → record { time = least.time + time; count = length now; index = least.index } ≡ load_at times (given shares least.index ids) least.index
+pub new_load : (times : Times) (shares : List Ids) (least : Load) (ids now : Ids) (time : ℕ) → IsLoad times shares least → now ≡ get_or shares least.index [] ++ ids → time ≡ known_time times ids → record { time = least.time + time; count = length now; index = least.index } ≡ load_at times (with_group shares least.index ids) least.index
 new_load times shares least ids now time load grown known =
-    let there : get_or (given shares least.index ids) least.index [] ≡ get_or shares least.index [] ++ ids = get_or-set_same shares least.index (get_or shares least.index [] ++ ids) [] load.in_range in
+    let there : get_or (with_group shares least.index ids) least.index [] ≡ get_or shares least.index [] ++ ids = get_or-set_same shares least.index (get_or shares least.index [] ++ ids) [] load.in_range in
     let sum : least.time + time ≡ known_time times (get_or shares least.index [] ++ ids) =
     ap₂ ◌+◌ (ap (λ (l : Load). l.time) load.is) known ∙ sym (sum_by-append (λ id. unwrap_or (times id) 0) (get_or shares least.index []) ids) in
     rw (there, sum, grown) refl

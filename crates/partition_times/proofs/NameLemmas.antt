@@ -12,7 +12,7 @@ use Rattle.regex.specs.Patterns.{Re}
 use Rattle.regex.specs.Strings.{regex_source, regex_pattern}
 use Rattle.regex.specs.declared.string.regex.Regex.{Regex}
 use Rattle.partition_times.specs.Compiled.{IsCompiled}
-use Rattle.partition_times.specs.Gathered.{SearchesFor, IdsByName, ids_under, has_name, AreGathered}
+use Rattle.partition_times.specs.Gathered.{SearchesFor, IdsByName, ids_under, has_group, AreGathered}
 use Rattle.partition_times.specs.Names.{named_by, members}
 use Rattle.partition_times.proofs.PatternLemmas.{compiled_searches}
 
@@ -32,7 +32,7 @@ pushed_if true ids id = refl
 pushed_if false ids id = sym (append-nil ids)
 
 -- one more id, under its name
-pub gathered_more : (name_of : List ℕ → List ℕ) (ids : List (List ℕ)) (index : ℕ) (id name : List ℕ) (old new : IdsByName) → index < length ids → id ≡ get_or ids index id → name ≡ name_of id → ((q : List ℕ) → ids_under new q ≡ (if bytes_eq q name then ids_under old q ++ id ∷ [] else ids_under old q)) → ((q : List ℕ) → has_name new q ≡ (bytes_eq q name || has_name old q)) → AreGathered name_of (take index ids) old → AreGathered name_of (take (index + 1) ids) new
+pub gathered_more : (name_of : List ℕ → List ℕ) (ids : List (List ℕ)) (index : ℕ) (id name : List ℕ) (old new : IdsByName) → index < length ids → id ≡ get_or ids index id → name ≡ name_of id → ((q : List ℕ) → ids_under new q ≡ (if bytes_eq q name then ids_under old q ++ id ∷ [] else ids_under old q)) → ((q : List ℕ) → has_group new q ≡ (bytes_eq q name || has_group old q)) → AreGathered name_of (take index ids) old → AreGathered name_of (take (index + 1) ids) new
 gathered_more name_of ids index id name old new below here named put has gathered =
     record {
       ids_of = λ q. put q ∙ ap₂ (λ n list. if bytes_eq q n then list ++ id ∷ [] else list) named (gathered.ids_of q)

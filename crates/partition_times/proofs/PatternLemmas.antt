@@ -19,7 +19,7 @@ use Rattle.regex.specs.declared.error.Error.TheVariants.{Syntax}
 use Rattle.regex.specs.declared.string.regex.Regex.{Regex}
 use Rattle.regex.proofs.ForCallers.{span_alike}
 use Rattle.partition_times.specs.Patterns.{reading, IsPattern, IsBadPattern, match_of, is_found, picked_ids}
-use Rattle.partition_times.specs.Compiled.{IsCompiled, Searches, AreSearchers, is_picked}
+use Rattle.partition_times.specs.Compiled.{IsCompiled, FindsSame, AreSearchers, is_picked}
 
 too_deep : (o : Option (Nested Re × Names)) → IfSome o (λ (re, _). default_config.nest_limit < re.depth) → (o ≡ None) ⊎ IsSomeAnd o (λ (re, _). default_config.nest_limit < re.depth)
 too_deep None deep = inl refl
@@ -52,7 +52,7 @@ unfolding Reads
 pattern_of_compiled pattern regex compiled = good _ _ (reading pattern) (rw (compiled.source, compiled.config) at compiled.read)
 
 -- and is searched for by what it means
-pub compiled_searches : (pattern : List ℕ) (regex : Regex) → IsCompiled pattern regex → Searches pattern (regex_pattern regex)
+pub compiled_searches : (pattern : List ℕ) (regex : Regex) → IsCompiled pattern regex → FindsSame pattern (regex_pattern regex)
 unfolding Reads
 compiled_searches pattern regex compiled = record { same = same_match _ _ (reading pattern) (rw (compiled.source, compiled.config) at compiled.read) }
 

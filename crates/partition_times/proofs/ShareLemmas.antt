@@ -16,19 +16,19 @@ use Rattle.std.specs.List.{slice_get}
 use Rattle.std.proofs.lemmas.Map.Text.{is_eq-slice_cmp}
 use Rattle.std.proofs.lemmas.List.{length-set}
 use Rattle.partition_times.specs.Names.{members, group_names}
-use Rattle.partition_times.specs.Shares.{Ids, Times, least_share, given, given_to_least, given_in_turn, dealt}
+use Rattle.partition_times.specs.Shares.{Ids, Times, least_share, with_group, given_to_least, given_in_turn, dealt}
 use Rattle.partition_times.specs.Gathered.{IdsByName, AreGathered}
 use Rattle.partition_times.specs.Ranked.{list_names, AreGroups, AreRanked, AreKnown, ids_by_group, AreNamesInOrder, AreRanksInOrder}
 use Rattle.partition_times.specs.declared.rank.Ranked.{Ranked}
 use Rattle.partition_times.proofs.OrderLemmas.{sorted_in_order, sorted_by}
 use Rattle.partition_times.proofs.RankLemmas.{timed_in_order}
 
-pub length-given : (shares : List Ids) (index : ℕ) (ids : Ids) → length (given shares index ids) ≡ length shares
+pub length-given : (shares : List Ids) (index : ℕ) (ids : Ids) → length (with_group shares index ids) ≡ length shares
 length-given shares index ids = length-set shares index (get_or shares index [] ++ ids)
 
 pub length-to_least : (times : Times) (shares groups : List Ids) → length (given_to_least times shares groups) ≡ length shares
 length-to_least times shares [] = refl
-length-to_least times shares (group ∷ groups) = length-to_least times (given shares (least_share times shares) group) groups ∙ length-given shares (least_share times shares) group
+length-to_least times shares (group ∷ groups) = length-to_least times (with_group shares (least_share times shares) group) groups ∙ length-given shares (least_share times shares) group
 
 -- the keys and the lists of a map by name
 module _ where

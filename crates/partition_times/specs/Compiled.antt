@@ -13,7 +13,7 @@ pub record IsCompiled (pattern : List ℕ) (regex : Regex) : Type 0 where
   pub read : IsReadFromSource regex
 
 -- what is searched for, instead of the pattern's text, finds the same in each list of bytes
-pub record Searches (pattern : List ℕ) (re : Re) : Type 0 where
+pub record FindsSame (pattern : List ℕ) (re : Re) : Type 0 where
   pub same : (id : List ℕ) → ((k : ℕ) → slice_index_or id k 0 < 256) → option_map span (find_str re id 0) ≡ first_match pattern id
 
 -- each of the patterns is searched for

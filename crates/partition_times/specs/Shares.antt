@@ -52,18 +52,18 @@ least_share times [] = 0
 least_share times (share ∷ shares) = if list_any (λ other. has_less times other share) shares then suc (least_share times shares) else 0
 
 -- the group goes to the share with this index, behind what came to it before
-abbrev pub given : List Ids → ℕ → Ids → List Ids
-given shares index group = slice_set shares index (slice_index_or shares index [] ++ group)
+abbrev pub with_group : List Ids → ℕ → Ids → List Ids
+with_group shares index group = slice_set shares index (slice_index_or shares index [] ++ group)
 
 -- each group goes to the share that has least when it comes
 abbrev pub given_to_least : Times → List Ids → List Ids → List Ids
 given_to_least times shares [] = shares
-given_to_least times shares (group ∷ groups) = given_to_least times (given shares (least_share times shares) group) groups
+given_to_least times shares (group ∷ groups) = given_to_least times (with_group shares (least_share times shares) group) groups
 
 -- the groups go to the shares in turn, from the share with this index on
 abbrev pub given_in_turn : List Ids → ℕ → List Ids → List Ids
 given_in_turn shares turn [] = shares
-given_in_turn shares turn (group ∷ groups) = given_in_turn (given shares (turn % length shares) group) (turn + 1) groups
+given_in_turn shares turn (group ∷ groups) = given_in_turn (with_group shares (turn % length shares) group) (turn + 1) groups
 
 -- the group of this name has some known time
 abbrev pub has_time : Times → (List ℕ → Ids) → List ℕ → Bool

@@ -4,9 +4,9 @@ ghost use Rattle.std.specs.Prelude.{◌≡◌, ◌++◌, ◌||◌, [], ◌∷◌
 ghost use Rattle.std.specs.Str.{bytes_eq};
 ghost use Rattle.regex.specs.Strings.{matcher_pattern};
 ghost use Rattle.partition_times.specs.Patterns.{IsPattern, IsBadPattern, first_match};
-ghost use Rattle.partition_times.specs.Compiled.{Searches};
+ghost use Rattle.partition_times.specs.Compiled.{FindsSame};
 ghost use Rattle.partition_times.specs.Names.{group_of, named_by};
-ghost use Rattle.partition_times.specs.Gathered.{SearchesFor, AreGathered, ids_under, has_name};
+ghost use Rattle.partition_times.specs.Gathered.{SearchesFor, AreGathered, ids_under, has_group};
 
 use crate::pattern::{PatternFault, compiled, string_of};
 use regex::{Matcher, Regex};
@@ -94,7 +94,7 @@ fn name_of<'a>(matcher: &mut Option<Matcher<'_>>, id: &'a str) -> &'a str
 }
 
 fn matched_name<'a>(matcher: &mut Matcher<'_>, id: &'a str) -> &'a str
-    ensures name { (pattern : _) → Searches pattern (matcher_pattern matcher.old) → result.now ≡ named_by (first_match pattern id.now) id.now }
+    ensures name { (pattern : _) → FindsSame pattern (matcher_pattern matcher.old) → result.now ≡ named_by (first_match pattern id.now) id.now }
     ensures same { matcher_pattern matcher.new ≡ matcher_pattern matcher.old }
 {
     match matcher.find(id) {
@@ -110,7 +110,7 @@ fn put_under<'a>(
     id: Text,
 ) -> Result<(), NoMemory>
     ensures ids { OnOk result ((q : _) → ids_under lists.new q ≡ if bytes_eq q name.now then ids_under lists.old q ++ id ∷ [] else ids_under lists.old q) }
-    ensures names { OnOk result ((q : _) → has_name lists.new q ≡ (bytes_eq q name.now || has_name lists.old q)) }
+    ensures names { OnOk result ((q : _) → has_group lists.new q ≡ (bytes_eq q name.now || has_group lists.old q)) }
 {
     let list: &mut Vec<Text> = lists.entry(name)?.or_default();
     list.push(id)?;

@@ -1,7 +1,7 @@
 //! Groups of ids, given to workers.
 
 ghost use Rattle.std.specs.Prelude.{◌≡◌, ◌++◌, ◌*◌, ◌^◌, ◌≤◌, ◌<◌, [], length, map, replicate, IfOk, OnOk};
-ghost use Rattle.partition_times.specs.Shares.{Times, known_time, least_share, given, given_to_least, given_in_turn, shares_of};
+ghost use Rattle.partition_times.specs.Shares.{Times, known_time, least_share, with_group, given_to_least, given_in_turn, shares_of};
 ghost use Rattle.std.specs.FinMap as fin;
 ghost use Rattle.partition_times.specs.Loads.{IsQueue};
 ghost use Rattle.partition_times.specs.Ranked.{AreKnown, AreRanksInOrder, ids_by_group};
@@ -58,7 +58,7 @@ impl Shares {
         requires queue { (times : Times) × IsQueue times self.old.lists.items self.old.queue.keys × (time ≡ known_time times ids.items) }
         requires small { time ≤ length ids.items * 2 ^ 64 }
         ensures { (times : _) → IsQueue times self.old.lists.items self.old.queue.keys → time ≡ known_time times ids.items
-            → OnOk result ((self.new.lists.items ≡ given self.old.lists.items (least_share times self.old.lists.items) ids.items)
+            → OnOk result ((self.new.lists.items ≡ with_group self.old.lists.items (least_share times self.old.lists.items) ids.items)
             × IsQueue times self.new.lists.items self.new.queue.keys) }
     {
         let Some(least) = self.queue.pop_first() else {

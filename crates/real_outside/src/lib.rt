@@ -41,4 +41,4 @@ pub use real_site::RealSite;
 pub use real_spawner::{Errors, RealSpawner};
 pub use stream_sink::{Outlet, StreamSink};
 pub use stream_source::StreamSource;
-pub use working_folder::enter;
+pub use working_folder::enter_folder;

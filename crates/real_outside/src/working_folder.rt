@@ -9,7 +9,7 @@ use std::{env, fs, io};
 
 /// Works in the folder of this path from now on. False where nothing stands there. What is there and can't be entered, as a
 /// file, and a link that leads nowhere, is a failure.
-pub fn enter<R: Files + Env>(alloc: Global, rt: &R, path: &str) -> Result<bool, Cause> {
+pub fn enter_folder<R: Files + Env>(alloc: Global, rt: &R, path: &str) -> Result<bool, Cause> {
     match env::set_current_dir(rt, path) {
         Ok(()) => Ok(true),
         Err(error) if is_absence(error.kind()) && !stands(rt, path) => Ok(false),

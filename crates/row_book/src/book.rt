@@ -2,7 +2,7 @@
 //!
 //! Where a function gives none, a line cannot be read, a table gave no answer, or memory was wanting.
 
-use crate::spelling::put_spelled;
+use crate::spelled_bytes::put_spelled;
 use itoa::Buffer;
 use std::alloc::Global;
 

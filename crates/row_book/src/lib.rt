@@ -9,11 +9,11 @@
 //! lines that it must answer. Remarks and empty lines stand between rows. Any other line begins a row, so none is passed over.
 //!
 //! - `book`: the rows of a book, each asked and compared
-//! - `spelling`: bytes that cannot stand as they are, and bytes that are repeated
+//! - `spelled_bytes`: bytes that cannot stand as they are, and bytes that are repeated
 #![tactic(auto)]
 
 mod book;
-mod spelling;
+mod spelled_bytes;
 
 pub use book::{Row, Tables, put_all, read_book};
-pub use spelling::bytes_of;
+pub use spelled_bytes::bytes_of;

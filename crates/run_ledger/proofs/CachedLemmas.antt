@@ -12,15 +12,15 @@ use Rattle.outcome_fold.proofs.SetLemmas.{ordered_already}
 use Rattle.run_shelf.specs.declared.faults.ShelfCall.{ShelfCall}
 use Rattle.run_shelf.specs.declared.faults.StoreFault.{StoreFault}
 use Rattle.run_shelf.specs.declared.faults.StoreFault.TheVariants.{Shelf, Closed}
-use Rattle.run_shelf.specs.declared.faults.SideFault.{SideFault}
-use Rattle.run_shelf.specs.declared.faults.SideFault.TheVariants as side_fault
-use Rattle.run_shelf.specs.declared.side.Side.TheVariants.{Failing, Times}
+use Rattle.run_shelf.specs.declared.faults.CacheFileFault.{CacheFileFault}
+use Rattle.run_shelf.specs.declared.faults.CacheFileFault.TheVariants as side_fault
+use Rattle.run_shelf.specs.declared.cache_file.CacheFile.TheVariants.{Failing, Times}
 use Rattle.run_shelf.specs.declared.base_set.Base.{Base as ABase}
 use Rattle.run_shelf.specs.Bases.{Base}
 use Rattle.run_shelf.specs.Looking.{ReadsBase}
 use Rattle.run_shelf.specs.Holds.{FitsFolder}
 use Rattle.run_shelf.specs.Repository.{Run, run_at, most_runs, Shows, base_of}
-use Rattle.run_shelf.specs.Sides.{HoldsSide, SideCloses, SideReads, fault_after_side}
+use Rattle.run_shelf.specs.Sides.{HoldsCacheFile, CacheFileCloses, CacheFileReads, fault_after_cache_file}
 use Rattle.run_shelf.specs.Stores.{StoreSeen, Reads}
 use Rattle.run_shelf.proofs.BaseLemmas.{base_sorted}
 use Rattle.run_shelf.proofs.ReadingLemmas.{StaysOpen, reads_as}
@@ -41,7 +41,7 @@ use Rattle.run_ledger.specs.SoFar.{SaysTo, CountsUpTo, FailsTo}
 
 -- ---- the faults of a file of a cache are handed on
 
-abbrev side_refusal : (T : Type 0) → SideFault → Result T SideFault
+abbrev side_refusal : (T : Type 0) → CacheFileFault → Result T CacheFileFault
 side_refusal T e = Err e
 
 abbrev refusal : (T : Type 0) → LedgerFault → Result T LedgerFault
@@ -59,12 +59,12 @@ side_none T a e = cc
 store_none : (T : Type 0) (a : StoreFault) → refusal T NoMemory ≡ refusal T (Store a) → ⊥
 store_none T a e = cc
 
-kept_by : (T U : Type 0) (before : Option ShelfCall) (e : SideFault) → fault_after_side before (side_refusal T e) ≡ closed_by before (refusal U (ledger_fault e))
+kept_by : (T U : Type 0) (before : Option ShelfCall) (e : CacheFileFault) → fault_after_cache_file before (side_refusal T e) ≡ closed_by before (refusal U (ledger_fault e))
 kept_by T U before (side_fault.Store (Shelf call)) = refl
 kept_by T U before (side_fault.Store (Closed call)) = refl
 kept_by T U before side_fault.NoMemory = refl
 
-closed_as : (T U : Type 0) (before after : Option ShelfCall) (e : SideFault) → SideCloses before after (side_refusal T e) → (call : ShelfCall)
+closed_as : (T U : Type 0) (before after : Option ShelfCall) (e : CacheFileFault) → CacheFileCloses before after (side_refusal T e) → (call : ShelfCall)
     → (refusal U (ledger_fault e) ≡ refusal U (Store (Closed call)) → before ≡ Some call) × (before ≡ Some call → refusal U (ledger_fault e) ≡ refusal U (Store (Closed call)))
 closed_as T U before after (side_fault.Store f) closes call = (
   λ told. (closes.closed call).0 (ap (λ g. side_refusal T (side_fault.Store g)) (store_item U f (Closed call) told)),
@@ -75,29 +75,29 @@ closed_as T U before after side_fault.NoMemory closes call = (
   λ told. absurd (side_none T (Closed call) ((closes.closed call).1 told)),
 )
 
-closes_as : (T U : Type 0) (before after : Option ShelfCall) (e : SideFault) → SideCloses before after (side_refusal T e) → LedgerCloses before after (refusal U (ledger_fault e))
+closes_as : (T U : Type 0) (before after : Option ShelfCall) (e : CacheFileFault) → CacheFileCloses before after (side_refusal T e) → LedgerCloses before after (refusal U (ledger_fault e))
 closes_as T U before after e closes = record { closed = closed_as T U before after e closes; kept = closes.kept ∙ kept_by T U before e }
 
 ok_is_no_err : {T E : Type 0} (x : T) (e : E) → Ok x ≡ Err e → ⊥
 ok_is_no_err x e is = true≢false (sym (ap is_err is))
 
-open_at_found : {T : Type 0} (before after : Option ShelfCall) (x : T) → SideCloses before after (Ok x) → before ≡ None
+open_at_found : {T : Type 0} (before after : Option ShelfCall) (x : T) → CacheFileCloses before after (Ok x) → before ≡ None
 open_at_found None after x closes = refl
 open_at_found (Some call) after x closes = absurd (ok_is_no_err x (side_fault.Store (Closed call)) ((closes.closed call).1 refl))
 
 module _ (a b : StoreSeen) where
-  pub found_reading : {T : Type 0} (x : T) → SideReads a b (Ok x) → Reads a b StaysOpen false
-  found_reading x reads = reads_as a b (λ p q. SideCloses p q (Ok x)) StaysOpen false (λ closes. (open_at_found _ _ x closes, closes.kept)) reads
+  pub found_reading : {T : Type 0} (x : T) → CacheFileReads a b (Ok x) → Reads a b StaysOpen false
+  found_reading x reads = reads_as a b (λ p q. CacheFileCloses p q (Ok x)) StaysOpen false (λ closes. (open_at_found _ _ x closes, closes.kept)) reads
 
-  handed_on : {T U : Type 0} (e : SideFault) → SideReads a b (side_refusal T e) → LedgerReads a b (refusal U (ledger_fault e))
+  handed_on : {T U : Type 0} (e : CacheFileFault) → CacheFileReads a b (side_refusal T e) → LedgerReads a b (refusal U (ledger_fault e))
   handed_on {T = T} {U = U} (side_fault.Store (Shelf call)) reads =
-      reads_as a b (λ p q. SideCloses p q (side_refusal T (side_fault.Store (Shelf call)))) (λ p q. LedgerCloses p q (refusal U (Store (Shelf call)))) true (closes_as T U _ _ (side_fault.Store (Shelf call))) reads
+      reads_as a b (λ p q. CacheFileCloses p q (side_refusal T (side_fault.Store (Shelf call)))) (λ p q. LedgerCloses p q (refusal U (Store (Shelf call)))) true (closes_as T U _ _ (side_fault.Store (Shelf call))) reads
   handed_on {T = T} {U = U} (side_fault.Store (Closed call)) reads =
-      reads_as a b (λ p q. SideCloses p q (side_refusal T (side_fault.Store (Closed call)))) (λ p q. LedgerCloses p q (refusal U (Store (Closed call)))) false (closes_as T U _ _ (side_fault.Store (Closed call))) reads
+      reads_as a b (λ p q. CacheFileCloses p q (side_refusal T (side_fault.Store (Closed call)))) (λ p q. LedgerCloses p q (refusal U (Store (Closed call)))) false (closes_as T U _ _ (side_fault.Store (Closed call))) reads
   handed_on {T = T} {U = U} side_fault.NoMemory reads =
-      reads_as a b (λ p q. SideCloses p q (side_refusal T side_fault.NoMemory)) (λ p q. LedgerCloses p q (refusal U NoMemory)) false (closes_as T U _ _ side_fault.NoMemory) reads
+      reads_as a b (λ p q. CacheFileCloses p q (side_refusal T side_fault.NoMemory)) (λ p q. LedgerCloses p q (refusal U NoMemory)) false (closes_as T U _ _ side_fault.NoMemory) reads
 
-  pub tells_side : {T U : Type 0} (r : Result U LedgerFault) (e : SideFault) → SideReads a b (side_refusal T e) → IsErrAnd r (λ fault. fault ≡ ledger_fault e) → LedgerReads a b r
+  pub tells_side : {T U : Type 0} (r : Result U LedgerFault) (e : CacheFileFault) → CacheFileReads a b (side_refusal T e) → IsErrAnd r (λ fault. fault ≡ ledger_fault e) → LedgerReads a b r
   tells_side (Ok x) e reads is = absurd is
   tells_side {T = T} {U = U} (Err fault) e reads is = subst (λ (f : LedgerFault). LedgerReads a b (refusal U f)) (sym is) (handed_on {T = T} e reads)
 
@@ -110,7 +110,7 @@ pub if_none : {X P Q : Type 0} (o : Option X) → (P → Q) → IfNone o P → I
 if_none None f p = f p
 if_none (Some x) f p = tt
 
-pub holds_none : (state : Option Folder) (found : Option (List ℕ)) (bytes : List ℕ) → found ≡ Some bytes → IfSome state (HoldsSide Failing found) → ((covers : ℕ) (ids : List (List ℕ)) → IsFailingCache bytes covers ids → ⊥)
+pub holds_none : (state : Option Folder) (found : Option (List ℕ)) (bytes : List ℕ) → found ≡ Some bytes → IfSome state (HoldsCacheFile Failing found) → ((covers : ℕ) (ids : List (List ℕ)) → IsFailingCache bytes covers ids → ⊥)
     → IfSome state HoldsNoFailing
 holds_none None found bytes is holds none = tt
 holds_none (Some s) found bytes is holds none = λ covers ids cache.
@@ -348,7 +348,7 @@ some_last kinds = last_up_to kinds (length kinds) (λ other past full. none_is_n
 
 -- ---- the same of the times
 
-pub holds_no_times : (state : Option Folder) (found : Option (List ℕ)) (bytes : List ℕ) → found ≡ Some bytes → IfSome state (HoldsSide Times found) → ((covers : ℕ) (times : FinMap text_cmp ℕ) → IsTimesCache bytes covers times → ⊥)
+pub holds_no_times : (state : Option Folder) (found : Option (List ℕ)) (bytes : List ℕ) → found ≡ Some bytes → IfSome state (HoldsCacheFile Times found) → ((covers : ℕ) (times : FinMap text_cmp ℕ) → IsTimesCache bytes covers times → ⊥)
     → IfSome state HoldsNoTimes
 holds_no_times None found bytes is holds none = tt
 holds_no_times (Some s) found bytes is holds none = λ covers times cache.

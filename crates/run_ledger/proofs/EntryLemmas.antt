@@ -16,26 +16,29 @@ use Rattle.std.proofs.lemmas.Iterator.{items_from_drains}
 use Rattle.std.proofs.lemmas.Iterator.Adapters.{YieldsList-from_vec}
 use Rattle.std.proofs.lemmas.List.Elements.{All-nil, All-head, All-tail}
 use Rattle.sub_number.specs.Texts.{IsShortText}
+use Rattle.sub_number.specs.Lines.{with_newline}
 use Rattle.outcome_fold.specs.Order.{text_cmp}
 use Rattle.outcome_fold.proofs.OrderLemmas.{texts_total}
 use Rattle.outcome_fold.proofs.TableLemmas.{entries_in_order}
-use Rattle.run_ledger.specs.Caches.{line, heading, time_entry, times_title, IsTimed, IsTimesCache}
-use Rattle.run_ledger.specs.Cuts.{Lacks, BeginsWithTime, AreTimeEntries, HasTimed}
-use Rattle.run_ledger.specs.Merging.{onto_first, pieces, in_pairs, times_in}
+use Rattle.run_shelf.specs.IdFiles.{heading, Lacks}
+use Rattle.run_shelf.specs.Bases.{onto_first, zero_ended_pieces}
+use Rattle.run_ledger.specs.Caches.{time_entry, times_title, IsTimed, IsTimesCache}
+use Rattle.run_ledger.specs.Cuts.{BeginsWithTime, AreTimeEntries, HasTimed}
+use Rattle.run_ledger.specs.Merging.{in_pairs, times_in}
 use Rattle.run_ledger.proofs.FormLemmas.{decimal_digits, no_zero, not_empty, empty_by}
 use Rattle.run_ledger.proofs.TimedLemmas.{one_time, keys_sorted, nothing_timed, next_is, more_timed, all_timed, not_timed}
 
-pieces_cut : (xs rest : List ℕ) → Lacks 0 xs → pieces (xs ++ 0 ∷ rest) ≡ xs ∷ pieces rest
+pieces_cut : (xs rest : List ℕ) → Lacks 0 xs → zero_ended_pieces (xs ++ 0 ∷ rest) ≡ xs ∷ zero_ended_pieces rest
 pieces_cut [] rest lacks = refl
 pieces_cut (x ∷ xs) rest lacks =
-    ap (λ b. cond b ([] ∷ pieces (xs ++ 0 ∷ rest)) (onto_first x (pieces (xs ++ 0 ∷ rest)))) (ne_eqb x 0 (All-head (λ b. b ≢ 0) x xs lacks))
+    ap (λ b. cond b ([] ∷ zero_ended_pieces (xs ++ 0 ∷ rest)) (onto_first x (zero_ended_pieces (xs ++ 0 ∷ rest)))) (ne_eqb x 0 (All-head (λ b. b ≢ 0) x xs lacks))
     ∙ ap (onto_first x) (pieces_cut xs rest (All-tail (λ b. b ≢ 0) x xs lacks))
 
-pairs_are : (es : List (List ℕ × ℕ)) → All IsTimed es → in_pairs (pieces (flat_map time_entry es)) ≡ es
+pairs_are : (es : List (List ℕ × ℕ)) → All IsTimed es → in_pairs (zero_ended_pieces (flat_map time_entry es)) ≡ es
 pairs_are [] each = refl
 pairs_are (e ∷ es) each =
     let timed : IsTimed e = All-head IsTimed e es each in
-    ap (λ l. in_pairs (pieces l)) (one_time e.0 e.1 (flat_map time_entry es))
+    ap (λ l. in_pairs (zero_ended_pieces l)) (one_time e.0 e.1 (flat_map time_entry es))
     ∙ ap in_pairs (pieces_cut e.0 (decimal e.1 ++ 0 ∷ flat_map time_entry es) (no_zero e.0 timed.text) ∙ ap (λ l. e.0 ∷ l) (pieces_cut (decimal e.1) (flat_map time_entry es) (decimal_digits 0 e.1 (omega arith) timed.time)))
     ∙ (λ i. (e.0, (decimal_is_IsNumeral e.1 timed.time).1 i) ∷ pairs_are es (All-tail IsTimed e es each) i)
 
@@ -45,7 +48,7 @@ from_own times = same_entries_map _ _ (entries_in_order texts_total (fin.entries
 -- the bytes tell the times
 pub times_are : (bytes : List ℕ) (times : FinMap text_cmp ℕ) → AreTimeEntries bytes times → times_in bytes ≡ times
 unfolding times_in
-times_are bytes times are = ap (λ l. fin.from_entries (in_pairs (pieces l))) are.is ∙ ap fin.from_entries (pairs_are (fin.entries times) are.each) ∙ from_own times
+times_are bytes times are = ap (λ l. fin.from_entries (in_pairs (zero_ended_pieces l))) are.is ∙ ap fin.from_entries (pairs_are (fin.entries times) are.each) ∙ from_own times
 
 pub own_times : (bytes : List ℕ) → (times : FinMap text_cmp ℕ) × AreTimeEntries bytes times → AreTimeEntries bytes (times_in bytes)
 own_times bytes (times, are) = subst (AreTimeEntries bytes) (sym (times_are bytes times are)) are
@@ -118,8 +121,8 @@ same_times bytes times others are also = sym (times_are bytes times are) ∙ tim
 
 -- ---- the whole cache
 
-pub heading_behind : (old : List ℕ) (covers : ℕ) → ((old ++ line times_title) ++ decimal covers) ++ 10 ∷ [] ≡ old ++ heading times_title covers
-heading_behind old covers = append_assoc (old ++ line times_title) (decimal covers) (10 ∷ []) ∙ append_assoc old (line times_title) (line (decimal covers))
+pub heading_behind : (old : List ℕ) (covers : ℕ) → ((old ++ with_newline times_title) ++ decimal covers) ++ 10 ∷ [] ≡ old ++ heading times_title covers
+heading_behind old covers = append_assoc (old ++ with_newline times_title) (decimal covers) (10 ∷ []) ∙ append_assoc old (with_newline times_title) (with_newline (decimal covers))
 
 pub cache_is : (bytes head entries : List ℕ) (covers : ℕ) (times : FinMap text_cmp ℕ) → bytes ≡ head ++ entries → head ≡ heading times_title covers → AreTimeEntries entries times → covers < 2 ^ 64 → IsTimesCache bytes covers times
 cache_is bytes head entries covers times is head_is are small = record {

@@ -9,8 +9,7 @@ use Rattle.std.proofs.lemmas.List.{append-nil}
 use Rattle.std.proofs.lemmas.List.Elements.{All-nil, All-cons, All-head, All-tail, All-push}
 use Rattle.sub_number.specs.Texts.{IsShortText}
 use Rattle.outcome_fold.specs.Order.{text_cmp}
-use Rattle.run_ledger.specs.Caches.{entry}
-use Rattle.run_ledger.specs.Cuts.{Lacks, AreIds, AreEntries}
+use Rattle.run_shelf.specs.IdFiles.{with_zero, Lacks, AreIds, AreEntries}
 
 first_of : List ℕ → ℕ
 first_of [] = 0
@@ -56,34 +55,34 @@ no_zero text short = short.text.no_nul
 piece_behind : (mark : ℕ) (text rest : List ℕ) → (text ++ mark ∷ []) ++ rest ≡ text ++ mark ∷ rest
 piece_behind mark text rest = append_assoc text (mark ∷ []) rest
 
-pub entries_more : (id : List ℕ) (ids : List (List ℕ)) (rest : List ℕ) → flat_map entry (id ∷ ids) ++ rest ≡ id ++ 0 ∷ (flat_map entry ids ++ rest)
-entries_more id ids rest = append_assoc (entry id) (flat_map entry ids) rest ∙ piece_behind 0 id (flat_map entry ids ++ rest)
+pub entries_more : (id : List ℕ) (ids : List (List ℕ)) (rest : List ℕ) → flat_map with_zero (id ∷ ids) ++ rest ≡ id ++ 0 ∷ (flat_map with_zero ids ++ rest)
+entries_more id ids rest = append_assoc (with_zero id) (flat_map with_zero ids) rest ∙ piece_behind 0 id (flat_map with_zero ids ++ rest)
 
 -- the entries with which others begin
-pub entries_begin : (ids others : List (List ℕ)) (rest : List ℕ) → All IsShortText ids → All IsShortText others → flat_map entry ids ++ rest ≡ flat_map entry others
-    → (more : List (List ℕ)) × (others ≡ ids ++ more) × (rest ≡ flat_map entry more)
+pub entries_begin : (ids others : List (List ℕ)) (rest : List ℕ) → All IsShortText ids → All IsShortText others → flat_map with_zero ids ++ rest ≡ flat_map with_zero others
+    → (more : List (List ℕ)) × (others ≡ ids ++ more) × (rest ≡ flat_map with_zero more)
 entries_begin [] others rest texts also same = (others, refl, same)
-entries_begin (id ∷ ids) [] rest texts also same = absurd (omega (arith, ap length (sym (entries_more id ids rest) ∙ same), length_mark id (flat_map entry ids ++ rest)))
+entries_begin (id ∷ ids) [] rest texts also same = absurd (omega (arith, ap length (sym (entries_more id ids rest) ∙ same), length_mark id (flat_map with_zero ids ++ rest)))
   where
     length_mark : (xs r : List ℕ) → 0 < length (xs ++ 0 ∷ r)
     length_mark [] r = omega arith
     length_mark (x ∷ xs) r = omega arith
 entries_begin (id ∷ ids) (other ∷ others) rest texts also same =
-    let parts = cut_same 0 id other (flat_map entry ids ++ rest) (flat_map entry others) (no_zero id (All-head IsShortText id ids texts)) (no_zero other (All-head IsShortText other others also))
-    (sym (entries_more id ids rest) ∙ same ∙ piece_behind 0 other (flat_map entry others)) in
+    let parts = cut_same 0 id other (flat_map with_zero ids ++ rest) (flat_map with_zero others) (no_zero id (All-head IsShortText id ids texts)) (no_zero other (All-head IsShortText other others also))
+    (sym (entries_more id ids rest) ∙ same ∙ piece_behind 0 other (flat_map with_zero others)) in
     let begun = entries_begin ids others rest (All-tail IsShortText id ids texts) (All-tail IsShortText other others also) (sym parts.1) in
     (begun.0, (λ i. parts.0 i ∷ begun.1 i), begun.2)
 
 -- one entry more
-pub entries_push : (bytes : List ℕ) (ids : List (List ℕ)) (id rest behind : List ℕ) → bytes ≡ flat_map entry ids ++ rest → rest ≡ id ++ 0 ∷ behind → bytes ≡ flat_map entry (ids ++ id ∷ []) ++ behind
-entries_push bytes ids id rest behind is cut = is ∙ ap (λ l. flat_map entry ids ++ l) cut ∙ sym (pushed ids)
+pub entries_push : (bytes : List ℕ) (ids : List (List ℕ)) (id rest behind : List ℕ) → bytes ≡ flat_map with_zero ids ++ rest → rest ≡ id ++ 0 ∷ behind → bytes ≡ flat_map with_zero (ids ++ id ∷ []) ++ behind
+entries_push bytes ids id rest behind is cut = is ∙ ap (λ l. flat_map with_zero ids ++ l) cut ∙ sym (pushed ids)
   where
-    pushed : (ids : List (List ℕ)) → flat_map entry (ids ++ id ∷ []) ++ behind ≡ flat_map entry ids ++ (id ++ 0 ∷ behind)
+    pushed : (ids : List (List ℕ)) → flat_map with_zero (ids ++ id ∷ []) ++ behind ≡ flat_map with_zero ids ++ (id ++ 0 ∷ behind)
     pushed [] = entries_more id [] behind
     pushed (x ∷ ids) =
         entries_more x (ids ++ id ∷ []) behind
         ∙ ap (λ l. x ++ 0 ∷ l) (pushed ids)
-        ∙ sym (append_assoc (entry x) (flat_map entry ids) (id ++ 0 ∷ behind) ∙ piece_behind 0 x (flat_map entry ids ++ (id ++ 0 ∷ behind)))
+        ∙ sym (append_assoc (with_zero x) (flat_map with_zero ids) (id ++ 0 ∷ behind) ∙ piece_behind 0 x (flat_map with_zero ids ++ (id ++ 0 ∷ behind)))
 
 -- ---- texts in order
 
@@ -106,13 +105,13 @@ ids_front ids id more are = record { texts = texts_front ids id more are.texts; 
 -- ---- why bytes are no entries
 
 -- the next entry is not one that may come
-pub next_refused : (bytes : List ℕ) (ids : List (List ℕ)) (id rest behind : List ℕ) → AreIds ids → bytes ≡ flat_map entry ids ++ rest → rest ≡ id ++ 0 ∷ behind → Lacks 0 id → (AreIds (ids ++ id ∷ []) → ⊥)
+pub next_refused : (bytes : List ℕ) (ids : List (List ℕ)) (id rest behind : List ℕ) → AreIds ids → bytes ≡ flat_map with_zero ids ++ rest → rest ≡ id ++ 0 ∷ behind → Lacks 0 id → (AreIds (ids ++ id ∷ []) → ⊥)
     → (others : List (List ℕ)) → AreEntries bytes others → ⊥
 next_refused bytes ids id rest behind are is cut lacks refused others entries =
     let begun = entries_begin ids others rest are.texts entries.are.texts (sym is ∙ entries.is) in
     refuse begun.0 begun.1 (sym cut ∙ begun.2)
   where
-    refuse : (more : List (List ℕ)) → others ≡ ids ++ more → id ++ 0 ∷ behind ≡ flat_map entry more → ⊥
+    refuse : (more : List (List ℕ)) → others ≡ ids ++ more → id ++ 0 ∷ behind ≡ flat_map with_zero more → ⊥
     refuse [] same pieces = omega (arith, ap length pieces, length_mark id behind)
       where
         length_mark : (xs r : List ℕ) → 0 < length (xs ++ 0 ∷ r)
@@ -122,7 +121,7 @@ next_refused bytes ids id rest behind are is cut lacks refused others entries =
         let all : AreIds (ids ++ other ∷ more) = subst AreIds same entries.are in
         let one : AreIds (ids ++ other ∷ []) = ids_front ids other more all in
         let text : IsShortText other = last_text ids other one.texts in
-        let parts = cut_same 0 id other behind (flat_map entry more) lacks (no_zero other text) (pieces ∙ piece_behind 0 other (flat_map entry more)) in
+        let parts = cut_same 0 id other behind (flat_map with_zero more) lacks (no_zero other text) (pieces ∙ piece_behind 0 other (flat_map with_zero more)) in
         refused (subst (λ (l : List ℕ). AreIds (ids ++ l ∷ [])) parts.0 one)
       where
         last_text : (ids : List (List ℕ)) (id : List ℕ) → All IsShortText (ids ++ id ∷ []) → IsShortText id
@@ -130,32 +129,32 @@ next_refused bytes ids id rest behind are is cut lacks refused others entries =
         last_text (x ∷ ids) id all = last_text ids id (All-tail IsShortText x (ids ++ id ∷ []) all)
 
 -- bytes without a zero byte at the end
-pub end_refused : (bytes : List ℕ) (ids : List (List ℕ)) (rest : List ℕ) → AreIds ids → bytes ≡ flat_map entry ids ++ rest → Lacks 0 rest → (rest ≡ [] → ⊥) → (others : List (List ℕ)) → AreEntries bytes others → ⊥
+pub end_refused : (bytes : List ℕ) (ids : List (List ℕ)) (rest : List ℕ) → AreIds ids → bytes ≡ flat_map with_zero ids ++ rest → Lacks 0 rest → (rest ≡ [] → ⊥) → (others : List (List ℕ)) → AreEntries bytes others → ⊥
 end_refused bytes ids rest are is lacks some others entries =
     let begun = entries_begin ids others rest are.texts entries.are.texts (sym is ∙ entries.is) in
     refuse begun.0 begun.2
   where
-    refuse : (more : List (List ℕ)) → rest ≡ flat_map entry more → ⊥
+    refuse : (more : List (List ℕ)) → rest ≡ flat_map with_zero more → ⊥
     refuse [] pieces = some pieces
-    refuse (other ∷ more) pieces = has_mark 0 other (flat_map entry more) (subst (Lacks 0) (pieces ∙ piece_behind 0 other (flat_map entry more)) lacks)
+    refuse (other ∷ more) pieces = has_mark 0 other (flat_map with_zero more) (subst (Lacks 0) (pieces ∙ piece_behind 0 other (flat_map with_zero more)) lacks)
 
 -- all of them
-pub entries_all : (bytes : List ℕ) (ids : List (List ℕ)) (rest : List ℕ) → bytes ≡ flat_map entry ids ++ rest → rest ≡ [] → AreIds ids → AreEntries bytes ids
-entries_all bytes ids rest is none are = record { is = is ∙ ap (λ l. flat_map entry ids ++ l) none ∙ append-nil (flat_map entry ids); are = are }
+pub entries_all : (bytes : List ℕ) (ids : List (List ℕ)) (rest : List ℕ) → bytes ≡ flat_map with_zero ids ++ rest → rest ≡ [] → AreIds ids → AreEntries bytes ids
+entries_all bytes ids rest is none are = record { is = is ∙ ap (λ l. flat_map with_zero ids ++ l) none ∙ append-nil (flat_map with_zero ids); are = are }
 
 pub no_ids : AreIds []
 unfolding IsStrictlySortedBy
 no_ids = record { texts = All-nil IsShortText; ordered = tt }
 
 -- the entries tell the texts
-pub entries_same : (ids others : List (List ℕ)) → All IsShortText ids → All IsShortText others → flat_map entry ids ≡ flat_map entry others → others ≡ ids
+pub entries_same : (ids others : List (List ℕ)) → All IsShortText ids → All IsShortText others → flat_map with_zero ids ≡ flat_map with_zero others → others ≡ ids
 entries_same ids others texts also same =
-    let begun = entries_begin ids others [] texts also (append-nil (flat_map entry ids) ∙ same) in
+    let begun = entries_begin ids others [] texts also (append-nil (flat_map with_zero ids) ∙ same) in
     begun.1 ∙ ap (λ (l : List (List ℕ)). ids ++ l) (none begun.0 begun.2) ∙ append-nil ids
   where
-    none : (more : List (List ℕ)) → [] ≡ flat_map entry more → more ≡ []
+    none : (more : List (List ℕ)) → [] ≡ flat_map with_zero more → more ≡ []
     none [] is = refl
-    none (id ∷ more) is = absurd (omega (arith, ap length (is ∙ piece_behind 0 id (flat_map entry more)), length_mark id (flat_map entry more)))
+    none (id ∷ more) is = absurd (omega (arith, ap length (is ∙ piece_behind 0 id (flat_map with_zero more)), length_mark id (flat_map with_zero more)))
       where
         length_mark : (xs r : List ℕ) → 0 < length (xs ++ 0 ∷ r)
         length_mark [] r = omega arith

@@ -5,15 +5,15 @@ use Rattle.std.specs.Str.{bytes_eq}
 use Rattle.std.proofs.lemmas.Bool.{both_ways}
 use Rattle.std.proofs.lemmas.Slice.Eq.{bytes_eq-Decides}
 use Rattle.std.proofs.lemmas.List.{take-append-drop, append_cancel_left}
-use Rattle.run_ledger.specs.Caches.{line}
-use Rattle.run_ledger.specs.Cuts.{Lacks, IsCutAtMark, SpellsDecimal, BeginsWithHeading}
+use Rattle.sub_number.specs.Lines.{with_newline}
+use Rattle.run_shelf.specs.IdFiles.{Lacks, IsCutAtMark, SpellsDecimal, BeginsWithHeading}
 use Rattle.run_ledger.proofs.FormLemmas.{cut_same, has_mark, decimal_digits}
 
 take_front : (xs ys : List ℕ) → take (length xs) (xs ++ ys) ≡ xs
 take_front [] ys = refl
 take_front (x ∷ xs) ys = ap (λ l. x ∷ l) (take_front xs ys)
 
-pub line_rest : (digits rest : List ℕ) → line digits ++ rest ≡ digits ++ 10 ∷ rest
+pub line_rest : (digits rest : List ℕ) → with_newline digits ++ rest ≡ digits ++ 10 ∷ rest
 line_rest digits rest = append_assoc digits (10 ∷ []) rest
 
 module _ (title bytes : List ℕ) where
@@ -21,14 +21,14 @@ module _ (title bytes : List ℕ) where
   pub no_title : bytes_eq (take (length title) bytes) title ≡ false → (covers : ℕ) (rest : List ℕ) → BeginsWithHeading title bytes covers rest → ⊥
   no_title differs covers rest begins =
       both_ways (bytes_eq (take (length title) bytes) title) differs
-      ((bytes_eq-Decides (take (length title) bytes) title).1 (ap (take (length title)) begins.is ∙ take_front title (line (decimal covers) ++ rest)))
+      ((bytes_eq-Decides (take (length title) bytes) title).1 (ap (take (length title)) begins.is ∙ take_front title (with_newline (decimal covers) ++ rest)))
 
   module _ (behind : List ℕ) (same : bytes_eq (take (length title) bytes) title ≡ true) (is : behind ≡ drop (length title) bytes) where
     pub behind_title : bytes ≡ title ++ behind
     behind_title = sym (take-append-drop (length title) bytes) ∙ (λ i. (bytes_eq-Decides (take (length title) bytes) title).0 same i ++ sym is i)
 
     line_of : (covers : ℕ) (rest : List ℕ) → BeginsWithHeading title bytes covers rest → behind ≡ decimal covers ++ 10 ∷ rest
-    line_of covers rest begins = append_cancel_left title behind (line (decimal covers) ++ rest) (sym behind_title ∙ begins.is) ∙ line_rest (decimal covers) rest
+    line_of covers rest begins = append_cancel_left title behind (with_newline (decimal covers) ++ rest) (sym behind_title ∙ begins.is) ∙ line_rest (decimal covers) rest
 
     pub no_line : Lacks 10 behind → (covers : ℕ) (rest : List ℕ) → BeginsWithHeading title bytes covers rest → ⊥
     no_line lacks covers rest begins = has_mark 10 (decimal covers) rest (subst (Lacks 10) (line_of covers rest begins) lacks)

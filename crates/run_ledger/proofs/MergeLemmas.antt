@@ -15,8 +15,9 @@ use Rattle.outcome_fold.specs.Order.{text_cmp}
 use Rattle.outcome_fold.specs.Answers.{times_of}
 use Rattle.outcome_fold.proofs.OrderLemmas.{texts_total, exact_texts}
 use Rattle.outcome_fold.proofs.TableLemmas.{entries_in_order}
+use Rattle.run_shelf.specs.IdFiles.{Lacks, IsCutAtMark}
 use Rattle.run_ledger.specs.Caches.{time_entry, IsTimed}
-use Rattle.run_ledger.specs.Cuts.{Lacks, IsCutAtMark, AreTimeEntries}
+use Rattle.run_ledger.specs.Cuts.{AreTimeEntries}
 use Rattle.run_ledger.specs.Ledger.{replaced}
 use Rattle.run_ledger.specs.Merging.{AreEntriesOfTimes, BeginsWithEntry, timed_of, AreSorted, last_of_each, below, not_below, past, merged}
 use Rattle.run_ledger.proofs.EntryLemmas.{from_own}

@@ -18,13 +18,13 @@ use Rattle.run_shelf.specs.declared.faults.ShelfCall.{ShelfCall}
 use Rattle.run_shelf.specs.declared.faults.ShelfCall.TheVariants.{Names, Length, ReadAt, StartDraft, Append, SyncDraft, Publish, SyncFolder}
 use Rattle.run_shelf.specs.declared.faults.StoreFault.{StoreFault}
 use Rattle.run_shelf.specs.declared.faults.StoreFault.TheVariants.{Shelf, Closed}
-use Rattle.run_shelf.specs.declared.side.Side.{Side}
-use Rattle.run_shelf.specs.declared.side.Side.TheVariants.{Failing, Times}
+use Rattle.run_shelf.specs.declared.cache_file.CacheFile.{CacheFile}
+use Rattle.run_shelf.specs.declared.cache_file.CacheFile.TheVariants.{Failing, Times}
 use Rattle.run_shelf.specs.Holds.{FitsFolder}
 use Rattle.run_shelf.specs.Images.{ReadsFile}
 use Rattle.run_shelf.specs.Outcomes.{KeepFails}
 use Rattle.run_shelf.specs.Repository.{Run, Shows, base_of}
-use Rattle.run_shelf.specs.Sides.{side_name, SameButSides, KeepsButSides, PassesButSides, HasSideBeside, PassesSide, KeepsSide, PutFails}
+use Rattle.run_shelf.specs.Sides.{cache_file_name, SameButCaches, KeepsButCaches, PassesButCaches, HasCacheFileBeside, PassesCacheFile, KeepsCacheFile, PutFails}
 use Rattle.run_shelf.proofs.Joining.{rest_images}
 use Rattle.run_shelf.proofs.BaseLemmas.{base_sorted}
 use Rattle.run_shelf.proofs.RunLemmas.{past_items, none_is_not_some, within_base}
@@ -44,13 +44,13 @@ use Rattle.run_ledger.proofs.TimedLemmas.{one_times, in_order}
 
 -- ---- nothing was done
 
-pub same_sides : (a : Option Folder) → Goes a a KeepsButSides
+pub same_sides : (a : Option Folder) → Goes a a KeepsButCaches
 same_sides None = tt
 same_sides (Some s) = same_itself s.disk.published
 
-pub same_passes : (a : Option Folder) → Goes a a PassesButSides
+pub same_passes : (a : Option Folder) → Goes a a PassesButCaches
 same_passes None = tt
-same_passes (Some s) = passes_same (λ image. IsImage s.disk image ⊎ SameButSides s.disk.published image) s s refl refl
+same_passes (Some s) = passes_same (λ image. IsImage s.disk image ⊎ SameButCaches s.disk.published image) s s refl refl
 
 pub same_sound : (P : Folder → Type 0) (a : Option Folder) → Goes a a (λ s t. P s → KeepsSound s t)
 same_sound P None = tt
@@ -58,11 +58,11 @@ same_sound P (Some s) = λ p leaves. passes_same IsSound s s refl refl
 
 -- the same, where the folder was only read
 module _ (a b : Option Folder) (same : Goes a b Stays) where
-  pub read_sides : Goes a b KeepsButSides
-  read_sides = goes_weaker a b Stays KeepsButSides same (λ s t is. subst (λ (f : Folder). KeepsButSides s f) (sym is) (same_itself s.disk.published))
+  pub read_sides : Goes a b KeepsButCaches
+  read_sides = goes_weaker a b Stays KeepsButCaches same (λ s t is. subst (λ (f : Folder). KeepsButCaches s f) (sym is) (same_itself s.disk.published))
 
-  pub read_passes : Goes a b PassesButSides
-  read_passes = goes_weaker a b Stays PassesButSides same (λ s t is. subst (λ (f : Folder). PassesButSides s f) (sym is) (passes_same (λ image. IsImage s.disk image ⊎ SameButSides s.disk.published image) s s refl refl))
+  pub read_passes : Goes a b PassesButCaches
+  read_passes = goes_weaker a b Stays PassesButCaches same (λ s t is. subst (λ (f : Folder). PassesButCaches s f) (sym is) (passes_same (λ image. IsImage s.disk image ⊎ SameButCaches s.disk.published image) s s refl refl))
 
   pub read_sound : Goes a b KeepsSound
   read_sound = goes_weaker a b Stays KeepsSound same (λ s t is leaves. subst (λ (f : Folder). Passes IsSound s f) (sym is) (passes_same IsSound s s refl refl))
@@ -72,17 +72,17 @@ module _ (a b : Option Folder) (same : Goes a b Stays) where
 
 -- ---- one file is put
 
-module _ (side : Side) (bytes : List ℕ) where
-  kept_sides : (s t : Folder) → KeepsSide side bytes s t → KeepsButSides s t
-  kept_sides s t kept = subst (λ (f : Files). SameButSides s.disk.published f) (sym (ap (λ (d : Disk). d.published) kept.disk)) (same_put s.disk.published side bytes)
+module _ (side : CacheFile) (bytes : List ℕ) where
+  kept_sides : (s t : Folder) → KeepsCacheFile side bytes s t → KeepsButCaches s t
+  kept_sides s t kept = subst (λ (f : Files). SameButCaches s.disk.published f) (sym (ap (λ (d : Disk). d.published) kept.disk)) (same_put s.disk.published side bytes)
 
-  reads_sides : (s t : Folder) → ReadsFile (side_name side) bytes s t → KeepsButSides s t
-  reads_sides s t reads = subst (λ (f : Files). SameButSides s.disk.published f) (sym reads) (same_put s.disk.published side bytes)
+  reads_sides : (s t : Folder) → ReadsFile (cache_file_name side) bytes s t → KeepsButCaches s t
+  reads_sides s t reads = subst (λ (f : Files). SameButCaches s.disk.published f) (sym reads) (same_put s.disk.published side bytes)
 
-  disk_sides : (s t : Folder) → t.disk ≡ s.disk → KeepsButSides s t
-  disk_sides s t is = subst (λ (d : Disk). SameButSides s.disk.published d.published) (sym is) (same_itself s.disk.published)
+  disk_sides : (s t : Folder) → t.disk ≡ s.disk → KeepsButCaches s t
+  disk_sides s t is = subst (λ (d : Disk). SameButCaches s.disk.published d.published) (sym is) (same_itself s.disk.published)
 
-  fails_sides : (call : ShelfCall) (s t : Folder) → KeepFails (side_name side) bytes call s t → KeepsButSides s t
+  fails_sides : (call : ShelfCall) (s t : Folder) → KeepFails (cache_file_name side) bytes call s t → KeepsButCaches s t
   fails_sides Names s t fails = absurd fails
   fails_sides Length s t fails = absurd fails
   fails_sides ReadAt s t fails = absurd fails
@@ -93,26 +93,26 @@ module _ (side : Side) (bytes : List ℕ) where
   fails_sides Publish s t (inr reads) = reads_sides s t reads
   fails_sides SyncFolder s t fails = reads_sides s t fails
 
-  put_fails_sides : (fault : StoreFault) (s t : Folder) → PutFails side bytes fault s t → KeepsButSides s t
+  put_fails_sides : (fault : StoreFault) (s t : Folder) → PutFails side bytes fault s t → KeepsButCaches s t
   put_fails_sides (Shelf call) s t fails = fails_sides call s t fails
   put_fails_sides (Closed call) s t is = disk_sides s t (ap (λ (f : Folder). f.disk) is)
 
-  pub kept_others : (a b : Option Folder) → Goes a b (KeepsSide side bytes) → Goes a b KeepsButSides
-  kept_others a b kept = goes_weaker a b (KeepsSide side bytes) KeepsButSides kept kept_sides
+  pub kept_others : (a b : Option Folder) → Goes a b (KeepsCacheFile side bytes) → Goes a b KeepsButCaches
+  kept_others a b kept = goes_weaker a b (KeepsCacheFile side bytes) KeepsButCaches kept kept_sides
 
-  pub not_put_others : (fault : StoreFault) (a b : Option Folder) → Goes a b (PutFails side bytes fault) → Goes a b KeepsButSides
-  not_put_others fault a b fails = goes_weaker a b (PutFails side bytes fault) KeepsButSides fails (put_fails_sides fault)
+  pub not_put_others : (fault : StoreFault) (a b : Option Folder) → Goes a b (PutFails side bytes fault) → Goes a b KeepsButCaches
+  not_put_others fault a b fails = goes_weaker a b (PutFails side bytes fault) KeepsButCaches fails (put_fails_sides fault)
 
-  side_allowed : (s : Folder) (left : Files) → IsImage s.disk left ⊎ HasSideBeside s.disk.published side bytes left → IsImage s.disk left ⊎ SameButSides s.disk.published left
+  side_allowed : (s : Folder) (left : Files) → IsImage s.disk left ⊎ HasCacheFileBeside s.disk.published side bytes left → IsImage s.disk left ⊎ SameButCaches s.disk.published left
   side_allowed s left (inl old) = inl old
-  side_allowed s left (inr beside) = inr (subst (λ (f : Files). SameButSides s.disk.published f) (sym beside.is) (same_put s.disk.published side bytes))
+  side_allowed s left (inr beside) = inr (subst (λ (f : Files). SameButCaches s.disk.published f) (sym beside.is) (same_put s.disk.published side bytes))
 
-  side_passes : (s t : Folder) → PassesSide side bytes s t → PassesButSides s t
+  side_passes : (s t : Folder) → PassesCacheFile side bytes s t → PassesButCaches s t
   side_passes s t through =
-      passes_weaker (λ left. IsImage s.disk left ⊎ HasSideBeside s.disk.published side bytes left) (λ left. IsImage s.disk left ⊎ SameButSides s.disk.published left) (side_allowed s) s t through
+      passes_weaker (λ left. IsImage s.disk left ⊎ HasCacheFileBeside s.disk.published side bytes left) (λ left. IsImage s.disk left ⊎ SameButCaches s.disk.published left) (side_allowed s) s t through
 
-  pub put_passes : (a b : Option Folder) → Goes a b (PassesSide side bytes) → Goes a b PassesButSides
-  put_passes a b through = goes_weaker a b (PassesSide side bytes) PassesButSides through side_passes
+  pub put_passes : (a b : Option Folder) → Goes a b (PassesCacheFile side bytes) → Goes a b PassesButCaches
+  put_passes a b through = goes_weaker a b (PassesCacheFile side bytes) PassesButCaches through side_passes
 
 -- what the runs say together is said of as many first runs as there are
 module _ {X : Type 0} (says : List RunRows → X) (s : Folder) (kinds : List Bool) (fits : FitsFolder kinds s) (covers : ℕ) (all : covers ≡ length kinds) where
@@ -134,10 +134,10 @@ module _ {X : Type 0} (says : List RunRows → X) (s : Folder) (kinds : List Boo
 module _ (kinds : List Bool) (covers : ℕ) (all : covers ≡ length kinds) (ids : List (List ℕ)) (times : FinMap text_cmp ℕ) (failing_bytes times_bytes : List ℕ)
     (failing : IsStrictlySortedBy text_cmp ids → IsFailingCache failing_bytes covers ids) (timed : IsTimesCache times_bytes covers times) where
   abbrev with_failing : Files → Files
-  with_failing files = put files (side_name Failing) failing_bytes
+  with_failing files = put files (cache_file_name Failing) failing_bytes
 
   abbrev with_both : Files → Files
-  with_both files = put (with_failing files) (side_name Times) times_bytes
+  with_both files = put (with_failing files) (cache_file_name Times) times_bytes
 
   module _ (s : Folder) (fits : FitsFolder kinds s) (folds : AreFolds ids times s) where
     form : IsFailingCache failing_bytes covers ids
@@ -167,37 +167,37 @@ module _ (kinds : List Bool) (covers : ℕ) (all : covers ≡ length kinds) (ids
     now_sound leaves = leaves s.disk.published (subst (λ (d : Disk). IsImage d s.disk.published) (sym fits.rest) (inl refl))
 
     -- the first is put, or not
-    first_sound : (m : Folder) → PassesSide Failing failing_bytes s m → KeepsSound s m
+    first_sound : (m : Folder) → PassesCacheFile Failing failing_bytes s m → KeepsSound s m
     first_sound m through leaves =
-        passes_weaker (λ left. IsImage s.disk left ⊎ HasSideBeside s.disk.published Failing failing_bytes left) IsSound allowed s m through
+        passes_weaker (λ left. IsImage s.disk left ⊎ HasCacheFileBeside s.disk.published Failing failing_bytes left) IsSound allowed s m through
       where
-        allowed : (left : Files) → IsImage s.disk left ⊎ HasSideBeside s.disk.published Failing failing_bytes left → IsSound left
+        allowed : (left : Files) → IsImage s.disk left ⊎ HasCacheFileBeside s.disk.published Failing failing_bytes left → IsSound left
         allowed left (inl old) = leaves left old
         allowed left (inr beside) = subst IsSound (sym beside.is) (sound_first (now_sound leaves))
 
     -- and then the second
-    module _ (m t : Folder) (kept : KeepsSide Failing failing_bytes s m) where
+    module _ (m t : Folder) (kept : KeepsCacheFile Failing failing_bytes s m) where
       published : m.disk.published ≡ with_failing s.disk.published
       published = ap (λ (d : Disk). d.published) kept.disk
 
       image_is : (left : Files) → IsImage m.disk left → left ≡ with_failing s.disk.published
       image_is left old = rest_images (with_failing s.disk.published) left (subst (λ (d : Disk). IsImage d left) kept.disk old)
 
-      beside_is : (left : Files) → HasSideBeside m.disk.published Times times_bytes left → left ≡ with_both s.disk.published
-      beside_is left beside = beside.is ∙ ap (λ (f : Files). put f (side_name Times) times_bytes) published
+      beside_is : (left : Files) → HasCacheFileBeside m.disk.published Times times_bytes left → left ≡ with_both s.disk.published
+      beside_is left beside = beside.is ∙ ap (λ (f : Files). put f (cache_file_name Times) times_bytes) published
 
-      second_sound : LeavesOnly IsSound s.disk → PassesSide Times times_bytes m t → Passes IsSound m t
+      second_sound : LeavesOnly IsSound s.disk → PassesCacheFile Times times_bytes m t → Passes IsSound m t
       second_sound leaves through =
-          passes_weaker (λ left. IsImage m.disk left ⊎ HasSideBeside m.disk.published Times times_bytes left) IsSound allowed m t through
+          passes_weaker (λ left. IsImage m.disk left ⊎ HasCacheFileBeside m.disk.published Times times_bytes left) IsSound allowed m t through
         where
-          allowed : (left : Files) → IsImage m.disk left ⊎ HasSideBeside m.disk.published Times times_bytes left → IsSound left
+          allowed : (left : Files) → IsImage m.disk left ⊎ HasCacheFileBeside m.disk.published Times times_bytes left → IsSound left
           allowed left (inl old) = subst IsSound (sym (image_is left old)) (sound_first (now_sound leaves))
           allowed left (inr beside) = subst IsSound (sym (beside_is left beside)) (sound_both (now_sound leaves))
 
-      both_sound : PassesSide Failing failing_bytes s m → PassesSide Times times_bytes m t → KeepsSound s t
+      both_sound : PassesCacheFile Failing failing_bytes s m → PassesCacheFile Times times_bytes m t → KeepsSound s t
       both_sound first second leaves = passes_then IsSound s m t (first_sound m first leaves) (second_sound leaves second)
 
-      has_caches : KeepsSide Times times_bytes m t → PutsCaches s t
+      has_caches : KeepsCacheFile Times times_bytes m t → PutsCaches s t
       has_caches second =
           let count : length folds.are_ids.1.runs ≡ covers = runs_are (failing_after (base_of s.disk.published)) s kinds fits covers all folds.are_ids.1.runs folds.are_ids.1.shown in
           record {
@@ -211,38 +211,38 @@ module _ (kinds : List Bool) (covers : ℕ) (all : covers ≡ length kinds) (ids
             failing = subst (λ (n : ℕ). IsFailingCache failing_bytes n ids) (sym count) form;
             times_bytes = times_bytes;
             timed = subst (λ (n : ℕ). IsTimesCache times_bytes n times) (sym count) timed;
-            disk = second.disk ∙ ap (λ (f : Files). at_rest (put f (side_name Times) times_bytes)) published;
+            disk = second.disk ∙ ap (λ (f : Files). at_rest (put f (cache_file_name Times) times_bytes)) published;
           }
 
   -- what is not said of the caches
-  module _ (s m t : Folder) (kept : KeepsSide Failing failing_bytes s m) where
-    second_allowed : (left : Files) → IsImage m.disk left ⊎ SameButSides m.disk.published left → IsImage s.disk left ⊎ SameButSides s.disk.published left
+  module _ (s m t : Folder) (kept : KeepsCacheFile Failing failing_bytes s m) where
+    second_allowed : (left : Files) → IsImage m.disk left ⊎ SameButCaches m.disk.published left → IsImage s.disk left ⊎ SameButCaches s.disk.published left
     second_allowed left (inl old) =
-        inr (subst (λ (f : Files). SameButSides s.disk.published f) (sym (rest_images (with_failing s.disk.published) left (subst (λ (d : Disk). IsImage d left) kept.disk old))) (same_put s.disk.published Failing failing_bytes))
+        inr (subst (λ (f : Files). SameButCaches s.disk.published f) (sym (rest_images (with_failing s.disk.published) left (subst (λ (d : Disk). IsImage d left) kept.disk old))) (same_put s.disk.published Failing failing_bytes))
     second_allowed left (inr same) = inr (same_then s.disk.published m.disk.published left (kept_sides Failing failing_bytes s m kept) same)
 
-    both_pass : PassesSide Failing failing_bytes s m → PassesButSides m t → PassesButSides s t
+    both_pass : PassesCacheFile Failing failing_bytes s m → PassesButCaches m t → PassesButCaches s t
     both_pass first second =
-        passes_then (λ left. IsImage s.disk left ⊎ SameButSides s.disk.published left) s m t (side_passes Failing failing_bytes s m first)
-        (passes_weaker (λ left. IsImage m.disk left ⊎ SameButSides m.disk.published left) (λ left. IsImage s.disk left ⊎ SameButSides s.disk.published left) second_allowed m t second)
+        passes_then (λ left. IsImage s.disk left ⊎ SameButCaches s.disk.published left) s m t (side_passes Failing failing_bytes s m first)
+        (passes_weaker (λ left. IsImage m.disk left ⊎ SameButCaches m.disk.published left) (λ left. IsImage s.disk left ⊎ SameButCaches s.disk.published left) second_allowed m t second)
 
-    both_keep : KeepsButSides m t → KeepsButSides s t
+    both_keep : KeepsButCaches m t → KeepsButCaches s t
     both_keep second = same_then s.disk.published m.disk.published t.disk.published (kept_sides Failing failing_bytes s m kept) second
 
   -- the same of folders that are told or not
   module _ (a b : Option Folder) (fits : IfSome a (FitsFolder kinds)) where
-    pub goes_first_sound : Goes a b (PassesSide Failing failing_bytes) → Goes a b (λ s t. AreFolds ids times s → KeepsSound s t)
-    goes_first_sound through = goes_from a b (FitsFolder kinds) (PassesSide Failing failing_bytes) (λ s t. AreFolds ids times s → KeepsSound s t) fits through (λ s t here pass folds. first_sound s here folds t pass)
+    pub goes_first_sound : Goes a b (PassesCacheFile Failing failing_bytes) → Goes a b (λ s t. AreFolds ids times s → KeepsSound s t)
+    goes_first_sound through = goes_from a b (FitsFolder kinds) (PassesCacheFile Failing failing_bytes) (λ s t. AreFolds ids times s → KeepsSound s t) fits through (λ s t here pass folds. first_sound s here folds t pass)
 
-    module _ (c : Option Folder) (kept : Goes a b (KeepsSide Failing failing_bytes)) where
-      pub goes_both_keep : Goes b c KeepsButSides → Goes a c KeepsButSides
-      goes_both_keep second = goes_then a b c (KeepsSide Failing failing_bytes) KeepsButSides KeepsButSides kept second (λ s m t one two. both_keep s m t one two)
+    module _ (c : Option Folder) (kept : Goes a b (KeepsCacheFile Failing failing_bytes)) where
+      pub goes_both_keep : Goes b c KeepsButCaches → Goes a c KeepsButCaches
+      goes_both_keep second = goes_then a b c (KeepsCacheFile Failing failing_bytes) KeepsButCaches KeepsButCaches kept second (λ s m t one two. both_keep s m t one two)
 
-      pub goes_caches : Goes b c (KeepsSide Times times_bytes) → Goes a c (λ s t. AreFolds ids times s → PutsCaches s t)
+      pub goes_caches : Goes b c (KeepsCacheFile Times times_bytes) → Goes a c (λ s t. AreFolds ids times s → PutsCaches s t)
       goes_caches second =
           there a b c fits kept second
         where
-          there : (a b c : Option Folder) → IfSome a (FitsFolder kinds) → Goes a b (KeepsSide Failing failing_bytes) → Goes b c (KeepsSide Times times_bytes) → Goes a c (λ s t. AreFolds ids times s → PutsCaches s t)
+          there : (a b c : Option Folder) → IfSome a (FitsFolder kinds) → Goes a b (KeepsCacheFile Failing failing_bytes) → Goes b c (KeepsCacheFile Times times_bytes) → Goes a c (λ s t. AreFolds ids times s → PutsCaches s t)
           there None None None f k w = tt
           there None None (Some t) f k w = absurd w
           there None (Some m) c f k w = absurd k
@@ -250,12 +250,12 @@ module _ (kinds : List Bool) (covers : ℕ) (all : covers ≡ length kinds) (ids
           there (Some s) (Some m) None f k w = absurd w
           there (Some s) (Some m) (Some t) f k w = λ folds. has_caches s f folds m t k w
 
-      module _ (first : Goes a b (PassesSide Failing failing_bytes)) where
-        pub goes_both_pass : Goes b c PassesButSides → Goes a c PassesButSides
+      module _ (first : Goes a b (PassesCacheFile Failing failing_bytes)) where
+        pub goes_both_pass : Goes b c PassesButCaches → Goes a c PassesButCaches
         goes_both_pass second =
             there a b c kept first second
           where
-            there : (a b c : Option Folder) → Goes a b (KeepsSide Failing failing_bytes) → Goes a b (PassesSide Failing failing_bytes) → Goes b c PassesButSides → Goes a c PassesButSides
+            there : (a b c : Option Folder) → Goes a b (KeepsCacheFile Failing failing_bytes) → Goes a b (PassesCacheFile Failing failing_bytes) → Goes b c PassesButCaches → Goes a c PassesButCaches
             there None None None k p w = tt
             there None None (Some t) k p w = absurd w
             there None (Some m) c k p w = absurd k
@@ -263,11 +263,11 @@ module _ (kinds : List Bool) (covers : ℕ) (all : covers ≡ length kinds) (ids
             there (Some s) (Some m) None k p w = absurd w
             there (Some s) (Some m) (Some t) k p w = both_pass s m t k p w
 
-        pub goes_both_sound : Goes b c (PassesSide Times times_bytes) → Goes a c (λ s t. AreFolds ids times s → KeepsSound s t)
+        pub goes_both_sound : Goes b c (PassesCacheFile Times times_bytes) → Goes a c (λ s t. AreFolds ids times s → KeepsSound s t)
         goes_both_sound second =
             there a b c fits kept first second
           where
-            there : (a b c : Option Folder) → IfSome a (FitsFolder kinds) → Goes a b (KeepsSide Failing failing_bytes) → Goes a b (PassesSide Failing failing_bytes) → Goes b c (PassesSide Times times_bytes)
+            there : (a b c : Option Folder) → IfSome a (FitsFolder kinds) → Goes a b (KeepsCacheFile Failing failing_bytes) → Goes a b (PassesCacheFile Failing failing_bytes) → Goes b c (PassesCacheFile Times times_bytes)
                 → Goes a c (λ s t. AreFolds ids times s → KeepsSound s t)
             there None None None f k p w = tt
             there None None (Some t) f k p w = absurd w

@@ -14,24 +14,26 @@ use Rattle.std.proofs.lemmas.Fmt.{decimal_injective}
 use Rattle.std.proofs.lemmas.List.{append-nil}
 use Rattle.std.proofs.lemmas.List.Elements.{All-nil, All-cons, All-head, All-tail, All-push, All-weaker}
 use Rattle.sub_number.specs.Texts.{IsShortText}
+use Rattle.sub_number.specs.Lines.{with_newline}
 use Rattle.outcome_fold.specs.declared.row.Row.{Row}
 use Rattle.outcome_fold.specs.Order.{text_cmp, text_table, in_byte_order, without}
 use Rattle.outcome_fold.specs.Answers.{ids_of, row_fails, failing_of, passed_of}
 use Rattle.outcome_fold.proofs.OrderLemmas.{texts_total, exact_texts}
 use Rattle.outcome_fold.proofs.TableLemmas.{entries_in_order}
 use Rattle.run_shelf.specs.Bases.{Base}
-use Rattle.run_ledger.specs.Caches.{line, entry, heading, time_entry, times_title, IsTimed, IsTimesCache}
-use Rattle.run_ledger.specs.Cuts.{Lacks, IsCutAtMark, SpellsDecimal, BeginsWithHeading, BeginsWithTime, AreTimeEntries, HasTimed, last_id, IsTimedAt, entry_if_timed, entry_at}
+use Rattle.run_shelf.specs.IdFiles.{with_zero, heading, Lacks, IsCutAtMark, SpellsDecimal, BeginsWithHeading}
+use Rattle.run_ledger.specs.Caches.{time_entry, times_title, IsTimed, IsTimesCache}
+use Rattle.run_ledger.specs.Cuts.{BeginsWithTime, AreTimeEntries, HasTimed, last_id, IsTimedAt, entry_if_timed, entry_at}
 use Rattle.run_ledger.specs.Ledger.{RunRows, failing_behind, failing_from, failing_after}
 use Rattle.run_ledger.proofs.FormLemmas.{cut_same, has_mark, decimal_digits, no_zero, sorted_front}
 use Rattle.run_ledger.proofs.CacheLemmas.{begins, same_heading}
-use Rattle.run_ledger.proofs.OrderedLemmas.{last_of, empty_of, sorted_push, sorted_last}
+use Rattle.run_ledger.proofs.OrderedLemmas.{last_of_ids, empty_of, sorted_push, sorted_last}
 
 -- one entry, cut at its zero bytes
 pub one_time : (id : List ℕ) (nanos : ℕ) (rest : List ℕ) → time_entry (id, nanos) ++ rest ≡ id ++ 0 ∷ (decimal nanos ++ 0 ∷ rest)
 one_time id nanos rest =
-    append_assoc (entry id) (entry (decimal nanos)) rest
-    ∙ append_assoc id (0 ∷ []) (entry (decimal nanos) ++ rest)
+    append_assoc (with_zero id) (with_zero (decimal nanos)) rest
+    ∙ append_assoc id (0 ∷ []) (with_zero (decimal nanos) ++ rest)
     ∙ ap (λ l. id ++ 0 ∷ l) (append_assoc (decimal nanos) (0 ∷ []) rest)
 
 -- why bytes begin with no entry
@@ -118,8 +120,8 @@ keys_sorted {V = V} (e ∷ es) sorted = (below es (left_of _ _ sorted), keys_sor
     below [] all = tt
     below (f ∷ es) all = (less_of (text_cmp e.0 f.0) (left_of _ _ all), below es (right_of _ _ all))
 
-last_is : (es : List Timed) → last_id es ≡ last_of (keys es)
-unfolding last_of
+last_is : (es : List Timed) → last_id es ≡ last_of_ids (keys es)
+unfolding last_of_ids
 last_is [] = refl
 last_is (e ∷ []) = refl
 last_is (e ∷ f ∷ es) = last_is (f ∷ es)
@@ -141,10 +143,10 @@ single : (id : List ℕ) → IsStrictlySortedBy text_cmp (id ∷ [])
 unfolding IsStrictlySortedBy
 single id = (tt, tt)
 
-sorted_behind : (ids : List (List ℕ)) (id : List ℕ) → IsStrictlySortedBy text_cmp ids → IfSome (last_of ids) (λ l. text_cmp l id ≡ Less) → IsStrictlySortedBy text_cmp (ids ++ id ∷ [])
-sorted_behind ids id sorted less = at (last_of ids) refl less
+sorted_behind : (ids : List (List ℕ)) (id : List ℕ) → IsStrictlySortedBy text_cmp ids → IfSome (last_of_ids ids) (λ l. text_cmp l id ≡ Less) → IsStrictlySortedBy text_cmp (ids ++ id ∷ [])
+sorted_behind ids id sorted less = at (last_of_ids ids) refl less
   where
-    at : (o : Option (List ℕ)) → last_of ids ≡ o → IfSome o (λ l. text_cmp l id ≡ Less) → IsStrictlySortedBy text_cmp (ids ++ id ∷ [])
+    at : (o : Option (List ℕ)) → last_of_ids ids ≡ o → IfSome o (λ l. text_cmp l id ≡ Less) → IsStrictlySortedBy text_cmp (ids ++ id ∷ [])
     at None is none = subst (λ (l : List (List ℕ)). IsStrictlySortedBy text_cmp (l ++ id ∷ [])) (sym (empty_of ids is)) (single id)
     at (Some last) is below = sorted_push ids id last sorted is below
 
@@ -235,23 +237,23 @@ module _ (bytes rest : List ℕ) (times : FinMap text_cmp ℕ) (last : Option (L
 
 -- ---- the whole cache
 
-times_of_form : (bytes : List ℕ) (covers : ℕ) (times : FinMap text_cmp ℕ) → IsTimesCache bytes covers times → BeginsWithHeading (line times_title) bytes covers (flat_map time_entry (fin.entries times))
+times_of_form : (bytes : List ℕ) (covers : ℕ) (times : FinMap text_cmp ℕ) → IsTimesCache bytes covers times → BeginsWithHeading (with_newline times_title) bytes covers (flat_map time_entry (fin.entries times))
 times_of_form bytes covers times cache = begins times_title (flat_map time_entry (fin.entries times)) bytes covers cache.is cache.number
 
-pub no_times_heading : (bytes : List ℕ) → ((covers : ℕ) (rest : List ℕ) → BeginsWithHeading (line times_title) bytes covers rest → ⊥) → (covers : ℕ) (times : FinMap text_cmp ℕ) → IsTimesCache bytes covers times → ⊥
+pub no_times_heading : (bytes : List ℕ) → ((covers : ℕ) (rest : List ℕ) → BeginsWithHeading (with_newline times_title) bytes covers rest → ⊥) → (covers : ℕ) (times : FinMap text_cmp ℕ) → IsTimesCache bytes covers times → ⊥
 no_times_heading bytes none covers times cache = none covers (flat_map time_entry (fin.entries times)) (times_of_form bytes covers times cache)
 
-pub no_times_entries : (bytes : List ℕ) (number : ℕ) (rest : List ℕ) → BeginsWithHeading (line times_title) bytes number rest → ((times : FinMap text_cmp ℕ) → AreTimeEntries rest times → ⊥) → (covers : ℕ) (times : FinMap text_cmp ℕ)
+pub no_times_entries : (bytes : List ℕ) (number : ℕ) (rest : List ℕ) → BeginsWithHeading (with_newline times_title) bytes number rest → ((times : FinMap text_cmp ℕ) → AreTimeEntries rest times → ⊥) → (covers : ℕ) (times : FinMap text_cmp ℕ)
     → IsTimesCache bytes covers times → ⊥
 no_times_entries bytes number rest head none covers times cache =
     none times (record {
-      is = sym (same_heading (line times_title) bytes rest (flat_map time_entry (fin.entries times)) number covers head (times_of_form bytes covers times cache)).1;
+      is = sym (same_heading (with_newline times_title) bytes rest (flat_map time_entry (fin.entries times)) number covers head (times_of_form bytes covers times cache)).1;
       each = cache.each;
     })
 
-pub is_times_cache : (bytes : List ℕ) (number : ℕ) (rest : List ℕ) → BeginsWithHeading (line times_title) bytes number rest → (times : FinMap text_cmp ℕ) → AreTimeEntries rest times → IsTimesCache bytes number times
+pub is_times_cache : (bytes : List ℕ) (number : ℕ) (rest : List ℕ) → BeginsWithHeading (with_newline times_title) bytes number rest → (times : FinMap text_cmp ℕ) → AreTimeEntries rest times → IsTimesCache bytes number times
 is_times_cache bytes number rest head times entries = record {
-  is = head.is ∙ sym (append_assoc (line times_title) (line (decimal number)) rest) ∙ ap (λ l. heading times_title number ++ l) entries.is;
+  is = head.is ∙ sym (append_assoc (with_newline times_title) (with_newline (decimal number)) rest) ∙ ap (λ l. heading times_title number ++ l) entries.is;
   number = head.small;
   each = entries.each;
 }
@@ -301,7 +303,7 @@ all_are_timed times each =
 -- it holds one thing
 pub one_times : (bytes : List ℕ) (covers also : ℕ) (times others : FinMap text_cmp ℕ) → IsTimesCache bytes covers times → IsTimesCache bytes also others → (also ≡ covers) × (others ≡ times)
 one_times bytes covers also times others cache other =
-    let same = same_heading (line times_title) bytes (flat_map time_entry (fin.entries times)) (flat_map time_entry (fin.entries others)) covers also (times_of_form bytes covers times cache) (times_of_form bytes also others other) in
+    let same = same_heading (with_newline times_title) bytes (flat_map time_entry (fin.entries times)) (flat_map time_entry (fin.entries others)) covers also (times_of_form bytes covers times cache) (times_of_form bytes also others other) in
     let begun = times_begin (fin.entries times) (fin.entries others) [] cache.each other.each (append-nil (flat_map time_entry (fin.entries times)) ∙ sym same.1) in
     (same.0, same_entries_map others times (begun.1 ∙ ap (λ (l : List Timed). fin.entries times ++ l) (none begun.0 begun.2) ∙ append-nil (fin.entries times)))
   where

@@ -3,17 +3,17 @@ use Rattle.std.specs.Prelude.{◌≡◌, ℕ, ◌<◌, ◌≤◌, Bool, false, S
 use Rattle.std.specs.FinMap.{FinMap}
 use Rattle.edge_io.specs.Disk.{Folder}
 use Rattle.outcome_fold.specs.Order.{text_cmp}
-use Rattle.run_shelf.specs.declared.faults.SideFault.{SideFault}
-use Rattle.run_shelf.specs.declared.faults.SideFault.TheVariants as side_fault
-use Rattle.run_shelf.specs.declared.side.Side.TheVariants.{Failing, Times}
-use Rattle.run_shelf.specs.Sides.{side_name}
+use Rattle.run_shelf.specs.declared.faults.CacheFileFault.{CacheFileFault}
+use Rattle.run_shelf.specs.declared.faults.CacheFileFault.TheVariants as side_fault
+use Rattle.run_shelf.specs.declared.cache_file.CacheFile.TheVariants.{Failing, Times}
+use Rattle.run_shelf.specs.Sides.{cache_file_name}
 use Rattle.run_ledger.specs.declared.fault.LedgerFault.{LedgerFault}
 use Rattle.run_ledger.specs.declared.fault.LedgerFault.TheVariants.{Store, NoMemory}
 use Rattle.run_ledger.specs.Caches.{IsFailingCache, IsTimesCache, SaidOfFirst, FailingOfFirst, IsSound}
 use Rattle.run_ledger.specs.Ledger.{times_after}
 
 -- the fault of a cache as a fault of the ledger
-abbrev pub ledger_fault : SideFault → LedgerFault
+abbrev pub ledger_fault : CacheFileFault → LedgerFault
 ledger_fault (side_fault.Store fault) = Store fault
 ledger_fault side_fault.NoMemory = NoMemory
 
@@ -24,7 +24,7 @@ ReadsSound s = IsSound s.disk.published
 -- the file of the cache holds this one
 pub record HoldsFailing (covers : ℕ) (ids : List (List ℕ)) (s : Folder) : Type 0 where
   pub bytes : List ℕ
-  pub file : s.disk.published (side_name Failing) ≡ Some bytes
+  pub file : s.disk.published (cache_file_name Failing) ≡ Some bytes
   pub form : IsFailingCache bytes covers ids
 
 -- Where the file of the cache holds one that covers no more than the first `number` runs, these say what it holds. Of one that
@@ -45,7 +45,7 @@ pub record Spares (kinds : List Bool) (number covers : ℕ) : Type 0 where
 -- the file of the cache holds these times
 pub record HoldsTimes (covers : ℕ) (times : FinMap text_cmp ℕ) (s : Folder) : Type 0 where
   pub bytes : List ℕ
-  pub file : s.disk.published (side_name Times) ≡ Some bytes
+  pub file : s.disk.published (cache_file_name Times) ≡ Some bytes
   pub form : IsTimesCache bytes covers times
 
 -- the same of the cache of the times

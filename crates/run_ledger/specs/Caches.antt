@@ -1,5 +1,5 @@
 -- The two caches: their files, and what they must hold (docs/FORMATS.md, "Caches").
-use Rattle.std.specs.Prelude.{◌≡◌, ℕ, ◌<◌, ◌≤◌, ◌^◌, Some, List, [], ◌∷◌, ◌++◌, length, codes, slice_get, All}
+use Rattle.std.specs.Prelude.{◌≡◌, ℕ, ◌<◌, ◌≤◌, ◌^◌, Some, List, ◌++◌, length, codes, slice_get, All}
 use Rattle.std.specs.List.{flat_map}
 use Rattle.std.specs.List.Sorted.{IsStrictlySortedBy}
 use Rattle.std.specs.Fmt.{decimal}
@@ -9,21 +9,10 @@ use Rattle.edge_io.specs.Disk.{Files}
 use Rattle.sub_number.specs.Texts.{IsShortText}
 use Rattle.outcome_fold.specs.Order.{text_cmp}
 use Rattle.run_shelf.specs.Repository.{Run, run_at, most_runs, base_of}
-use Rattle.run_shelf.specs.Sides.{side_name}
-use Rattle.run_shelf.specs.declared.side.Side.TheVariants.{Failing, Times}
+use Rattle.run_shelf.specs.Sides.{cache_file_name}
+use Rattle.run_shelf.specs.declared.cache_file.CacheFile.TheVariants.{Failing, Times}
+use Rattle.run_shelf.specs.IdFiles.{heading, with_zero}
 use Rattle.run_ledger.specs.Ledger.{RunRows, AreRunRows, failing_after, times_after}
-
--- a text and a newline
-abbrev pub line : List ℕ → List ℕ
-line text = text ++ 10 ∷ []
-
--- a text and a zero byte
-abbrev pub entry : List ℕ → List ℕ
-entry text = text ++ 0 ∷ []
-
--- the first two lines: what it is a cache of, and how many runs it covers
-abbrev pub heading : List ℕ → ℕ → List ℕ
-heading title covers = line title ++ line (decimal covers)
 
 -- the first line of the failing set's cache
 abbrev pub failing_title : List ℕ
@@ -35,11 +24,11 @@ times_title = codes "subunit-times 1"
 
 -- the cache of a failing set
 abbrev pub failing_cache : ℕ → List (List ℕ) → List ℕ
-failing_cache covers ids = heading failing_title covers ++ flat_map entry ids
+failing_cache covers ids = heading failing_title covers ++ flat_map with_zero ids
 
 -- an id and its time
 abbrev pub time_entry : List ℕ × ℕ → List ℕ
-time_entry timed = entry timed.0 ++ entry (decimal timed.1)
+time_entry timed = with_zero timed.0 ++ with_zero (decimal timed.1)
 
 -- the cache of times
 abbrev pub times_cache : ℕ → FinMap text_cmp ℕ → List ℕ
@@ -86,5 +75,5 @@ pub record FailingOfFirst (files : Files) (covers : ℕ) (ids : List (List ℕ))
 -- The files are sound: each cache of its form covers at most the runs that there are, and holds the fold over that many.
 -- That of the failing set covers at least those that the base counts.
 pub record IsSound (files : Files) : Type 0 where
-  pub failing : (bytes : List ℕ) (covers : ℕ) (ids : List (List ℕ)) → files (side_name Failing) ≡ Some bytes → IsFailingCache bytes covers ids → FailingOfFirst files covers ids
-  pub times : (bytes : List ℕ) (covers : ℕ) (times : FinMap text_cmp ℕ) → files (side_name Times) ≡ Some bytes → IsTimesCache bytes covers times → SaidOfFirst times_after files covers times
+  pub failing : (bytes : List ℕ) (covers : ℕ) (ids : List (List ℕ)) → files (cache_file_name Failing) ≡ Some bytes → IsFailingCache bytes covers ids → FailingOfFirst files covers ids
+  pub times : (bytes : List ℕ) (covers : ℕ) (times : FinMap text_cmp ℕ) → files (cache_file_name Times) ≡ Some bytes → IsTimesCache bytes covers times → SaidOfFirst times_after files covers times

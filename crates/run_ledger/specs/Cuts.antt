@@ -1,42 +1,12 @@
 -- Pieces of a cache's file (docs/FORMATS.md, "Caches").
-use Rattle.std.specs.Prelude.{◌≡◌, ◌≢◌, ℕ, ◌<◌, ◌^◌, Option, Some, None, IfSome, List, [], ◌∷◌, ◌++◌, map, All}
+use Rattle.std.specs.Prelude.{◌≡◌, ℕ, ◌<◌, ◌^◌, Option, Some, None, IfSome, List, [], ◌∷◌, ◌++◌, map, All}
 use Rattle.std.specs.List.{flat_map}
 use Rattle.std.specs.List.Sorted.{IsStrictlySortedBy}
-use Rattle.std.specs.Fmt.{decimal}
 use Rattle.std.specs.FinMap as fin
 use Rattle.std.specs.FinMap.{FinMap}
-use Rattle.sub_number.specs.Texts.{IsShortText}
 use Rattle.outcome_fold.specs.Order.{text_cmp}
-use Rattle.run_ledger.specs.Caches.{line, entry, time_entry, IsTimed}
-
--- the mark is not among the bytes
-abbrev pub Lacks : ℕ → List ℕ → Type 0
-Lacks mark bytes = All (λ byte. byte ≢ mark) bytes
-
--- the bytes before the first mark, and those behind it
-pub record IsCutAtMark (mark : ℕ) (bytes front behind : List ℕ) : Type 0 where
-  pub is : bytes ≡ front ++ mark ∷ behind
-  pub first : Lacks mark front
-
--- the digits of this number, which is below 2^64
-pub record SpellsDecimal (digits : List ℕ) (number : ℕ) : Type 0 where
-  pub is : digits ≡ decimal number
-  pub small : number < 2 ^ 64
-
--- a line with this title, one with this number, and the rest
-pub record BeginsWithHeading (title bytes : List ℕ) (covers : ℕ) (rest : List ℕ) : Type 0 where
-  pub is : bytes ≡ title ++ (line (decimal covers) ++ rest)
-  pub small : covers < 2 ^ 64
-
--- texts in the order of their bytes, each once
-pub record AreIds (ids : List (List ℕ)) : Type 0 where
-  pub texts : All IsShortText ids
-  pub ordered : IsStrictlySortedBy text_cmp ids
-
--- the bytes are the ids, and a zero byte behind each
-pub record AreEntries (bytes : List ℕ) (ids : List (List ℕ)) : Type 0 where
-  pub is : bytes ≡ flat_map entry ids
-  pub are : AreIds ids
+use Rattle.run_shelf.specs.IdFiles.{Lacks}
+use Rattle.run_ledger.specs.Caches.{time_entry, IsTimed}
 
 -- an id without a zero byte and a number below 2^64, a zero byte behind each, and the rest
 pub record BeginsWithTime (bytes id : List ℕ) (nanos : ℕ) (rest : List ℕ) : Type 0 where

@@ -1,5 +1,5 @@
 -- Times as the bytes of a cache's entries, and the times of one run merged into them (docs/FORMATS.md, "Caches").
-use Rattle.std.specs.Prelude.{◌≡◌, ℕ, ◌==◌, Bool, true, List, [], ◌∷◌, ◌++◌, map, All, if◌then◌else◌}
+use Rattle.std.specs.Prelude.{◌≡◌, ℕ, Bool, true, List, [], ◌∷◌, ◌++◌, map, All, if◌then◌else◌}
 use Rattle.std.specs.FinMap as fin
 use Rattle.std.specs.FinMap.{FinMap}
 use Rattle.std.specs.List.{flat_map}
@@ -11,17 +11,8 @@ use Rattle.std.specs.declared.cmp.Ordering.{Ordering}
 use Rattle.outcome_fold.specs.declared.row.Row.{Row}
 use Rattle.outcome_fold.specs.Order.{text_cmp}
 use Rattle.outcome_fold.specs.Answers.{timed_rows}
+use Rattle.run_shelf.specs.Bases.{zero_ended_pieces}
 use Rattle.run_ledger.specs.Caches.{time_entry, IsTimed}
-
--- a byte more before the first piece, where there is one
-abbrev pub onto_first : ℕ → List (List ℕ) → List (List ℕ)
-onto_first byte [] = []
-onto_first byte (piece ∷ pieces) = (byte ∷ piece) ∷ pieces
-
--- the pieces that a zero byte ends, each without it
-abbrev pub pieces : List ℕ → List (List ℕ)
-pieces [] = []
-pieces (byte ∷ bytes) = if byte == 0 then [] ∷ pieces bytes else onto_first byte (pieces bytes)
 
 -- each first one of two is an id, and the second one spells its time
 abbrev pub in_pairs : List (List ℕ) → List (List ℕ × ℕ)
@@ -31,7 +22,7 @@ in_pairs (id ∷ digits ∷ more) = (id, digits_value 10 digits) ∷ in_pairs mo
 
 -- the times that entries hold, told by their bytes
 unfoldable pub times_in : List ℕ → FinMap text_cmp ℕ
-times_in bytes = fin.from_entries (in_pairs (pieces bytes))
+times_in bytes = fin.from_entries (in_pairs (zero_ended_pieces bytes))
 
 -- the bytes are these entries, one after another
 pub record AreEntriesOfTimes (bytes : List ℕ) (entries : List (List ℕ × ℕ)) : Type 0 where

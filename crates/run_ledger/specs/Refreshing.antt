@@ -5,8 +5,8 @@ use Rattle.edge_io.specs.Disk.{put, Folder, at_rest}
 use Rattle.edge_io.specs.Moments.{LeavesOnly, Passes}
 use Rattle.outcome_fold.specs.Order.{text_cmp}
 use Rattle.run_shelf.specs.Repository.{Run, Shows}
-use Rattle.run_shelf.specs.Sides.{side_name}
-use Rattle.run_shelf.specs.declared.side.Side.TheVariants.{Failing, Times}
+use Rattle.run_shelf.specs.Sides.{cache_file_name}
+use Rattle.run_shelf.specs.declared.cache_file.CacheFile.TheVariants.{Failing, Times}
 use Rattle.run_ledger.specs.Cached.{HoldsFailing, HoldsTimes}
 use Rattle.run_ledger.specs.Caches.{IsFailingCache, IsTimesCache, IsSound}
 use Rattle.run_ledger.specs.Ledger.{IsFailingSet, AreTimes}
@@ -28,7 +28,7 @@ pub record PutsCaches (s t : Folder) : Type 0 where
   pub failing : IsFailingCache failing_bytes (length runs) ids
   pub times_bytes : List ℕ
   pub timed : IsTimesCache times_bytes (length runs) times
-  pub disk : t.disk ≡ at_rest (put (put s.disk.published (side_name Failing) failing_bytes) (side_name Times) times_bytes)
+  pub disk : t.disk ≡ at_rest (put (put s.disk.published (cache_file_name Failing) failing_bytes) (cache_file_name Times) times_bytes)
 
 -- both files hold a cache that covers so many runs
 pub record HoldBoth (covers : ℕ) (s : Folder) : Type 0 where

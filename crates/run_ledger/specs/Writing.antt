@@ -10,7 +10,7 @@ abbrev pub HasHeardEvents : (filter_tags : List (List ℕ)) → WrittenRun → (
 HasHeardEvents filter_tags written events = HasSummed filter_tags written.summing events
 
 -- the bytes written are the packets of events, whose rows are summed up
-pub record HasWritten (filter_tags : List (List ℕ)) (written : WrittenRun) (run : List ℕ) : Type 0 where
+pub record HasWrittenRun (filter_tags : List (List ℕ)) (written : WrittenRun) (run : List ℕ) : Type 0 where
   pub events : List Event
   pub packets : ArePacketsOf events run
   pub folded : HasHeardEvents filter_tags written events

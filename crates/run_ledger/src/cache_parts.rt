@@ -1,7 +1,7 @@
 //! Pieces of a cache's file.
 
 ghost use Rattle.std.specs.Prelude.{◌≡◌, ℕ, List, IfSome, IfNone};
-ghost use Rattle.run_ledger.specs.Cuts.{Lacks, IsCutAtMark, SpellsDecimal, BeginsWithHeading};
+ghost use Rattle.run_shelf.specs.IdFiles.{Lacks, IsCutAtMark, SpellsDecimal, BeginsWithHeading};
 
 use itoa::Buffer;
 use memchr::memchr;

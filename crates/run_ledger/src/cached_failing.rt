@@ -18,7 +18,7 @@ use crate::failing_set::{failing_afresh, last_full, take_runs};
 use crate::fault::LedgerFault;
 use edge_io::Shelf;
 use outcome_fold::TextSet;
-use run_shelf::{Side, Store};
+use run_shelf::{CacheFile, Store};
 use std::alloc::Global;
 use sub_number::IdList;
 
@@ -83,7 +83,7 @@ fn read_cache<H: Shelf>(
     ensures reads { LedgerReads (seen_store store.old (H.seen store.old.shelf.now)) (seen_store store.new (H.seen store.new.shelf.now)) result }
     ensures time { TicksUpTo 2 (H.clock store.old.shelf.now) (H.clock store.new.shelf.now) }
 {
-    let Some(bytes) = store.side(alloc, Side::Failing)? else {
+    let Some(bytes) = store.cache_file(alloc, CacheFile::Failing)? else {
         return Ok(None);
     };
     Ok(read_failing_cache(alloc, bytes.bytes())?)

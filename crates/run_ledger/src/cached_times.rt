@@ -17,7 +17,7 @@ use crate::fault::LedgerFault;
 use crate::latest_times::{take_times, times_afresh};
 use crate::times_cache::{EntriesCache, read_entries_cache};
 use edge_io::Shelf;
-use run_shelf::{Side, Store};
+use run_shelf::{CacheFile, Store};
 use std::alloc::Global;
 use sub_number::TimeMap;
 
@@ -94,7 +94,7 @@ fn read_cache<H: Shelf>(
     ensures reads { LedgerReads (seen_store store.old (H.seen store.old.shelf.now)) (seen_store store.new (H.seen store.new.shelf.now)) result }
     ensures time { TicksUpTo 2 (H.clock store.old.shelf.now) (H.clock store.new.shelf.now) }
 {
-    let Some(bytes) = store.side(alloc, Side::Times)? else {
+    let Some(bytes) = store.cache_file(alloc, CacheFile::Times)? else {
         return Ok(None);
     };
     Ok(read_entries_cache(alloc, bytes.bytes())?)

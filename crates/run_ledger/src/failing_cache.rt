@@ -5,8 +5,8 @@ ghost use Rattle.std.specs.List.{flat_map};
 ghost use Rattle.std.specs.List.Sorted.{IsStrictlySortedBy};
 ghost use Rattle.sub_number.specs.Texts.{IsShortText};
 ghost use Rattle.outcome_fold.specs.Order.{text_cmp};
-ghost use Rattle.run_ledger.specs.Caches.{entry, failing_cache, IsFailingCache};
-ghost use Rattle.run_ledger.specs.Cuts.{AreIds, AreEntries};
+ghost use Rattle.run_shelf.specs.IdFiles.{with_zero, AreIds, AreEntries};
+ghost use Rattle.run_ledger.specs.Caches.{failing_cache, IsFailingCache};
 
 use crate::cache_parts::{read_heading, split_at_mark};
 use itoa::Buffer;
@@ -38,7 +38,7 @@ pub fn write_failing_cache(alloc: Global, covers: u64, ids: &IdList) -> Result<B
 
 // Each id, and a zero byte behind it.
 fn write_entries(ids: &[Text], bytes: &mut Vec<u8>) -> Result<(), NoMemory>
-    ensures bytes { OnOk result (bytes.new.items ≡ bytes.old.items ++ flat_map entry ids.now) }
+    ensures bytes { OnOk result (bytes.new.items ≡ bytes.old.items ++ flat_map with_zero ids.now) }
     ensures texts { OnOk result (All IsShortText ids.now) }
 {
     for id in ids {

@@ -6,7 +6,7 @@ ghost use Rattle.run_shelf.specs.declared.faults.StoreFault.TheVariants.{Closed}
 ghost use Rattle.run_ledger.specs.declared.fault.LedgerFault.TheVariants.{Store as StoreRefused};
 
 use edge_io::Shelf;
-use run_shelf::{SideFault, Store, StoreFault};
+use run_shelf::{CacheFileFault, Store, StoreFault};
 use sub_number::NoMemory;
 use thiserror::Error;
 
@@ -32,16 +32,16 @@ impl From<StoreFault> for LedgerFault {
     }
 }
 
-impl From<SideFault> for LedgerFault {
+impl From<CacheFileFault> for LedgerFault {
     ghost use Rattle.std.specs.Prelude.{◌≡◌};
     ghost use Rattle.run_ledger.specs.Cached.{ledger_fault};
 
     ghost from_gives = { λ cause fault. fault ≡ ledger_fault cause };
 
-    fn from(cause: SideFault) -> Self {
+    fn from(cause: CacheFileFault) -> Self {
         match cause {
-            SideFault::Store(fault) => LedgerFault::Store(fault),
-            SideFault::NoMemory => LedgerFault::NoMemory,
+            CacheFileFault::Store(fault) => LedgerFault::Store(fault),
+            CacheFileFault::NoMemory => LedgerFault::NoMemory,
         }
     }
 }

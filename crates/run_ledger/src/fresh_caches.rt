@@ -8,7 +8,7 @@ ghost use Rattle.outcome_fold.specs.declared.row.Row.{Row};
 ghost use Rattle.outcome_fold.specs.Order.{text_cmp};
 ghost use Rattle.outcome_fold.specs.Summed.{Sums};
 ghost use Rattle.run_shelf.specs.Outcomes.{TicksUpTo};
-ghost use Rattle.run_shelf.specs.Sides.{KeepsSide, PassesSide, KeepsButSides, PassesButSides};
+ghost use Rattle.run_shelf.specs.Sides.{KeepsCacheFile, PassesCacheFile, KeepsButCaches, PassesButCaches};
 ghost use Rattle.run_shelf.specs.Stores.{store_kinds, store_fault, FitsUnlessBroken, seen_store};
 ghost use Rattle.run_ledger.specs.Cached.{ReadsSound};
 ghost use Rattle.run_ledger.specs.Ledger.{HasNewRows, IsFailingSet, AreTimes, failing_behind as after_run};
@@ -24,7 +24,7 @@ use crate::merged_times::replace_summed;
 use crate::times_cache::write_entries_cache;
 use edge_io::Shelf;
 use outcome_fold::{Summary, TextSet};
-use run_shelf::{Side, Store};
+use run_shelf::{CacheFile, Store};
 use std::alloc::Global;
 use sub_number::{IdList, NoMemory};
 
@@ -39,8 +39,8 @@ pub fn refresh<H: Shelf>(alloc: Global, store: &mut Store<'_, H>) -> Result<(), 
     requires fits { FitsUnlessBroken (store_kinds store.old) (store_fault store.old) (H.seen store.old.shelf.now).told }
     ensures same_reference { store.new.shelf.ghost_name ≡ store.old.shelf.ghost_name }
     ensures refreshed { OnOk result (Goes (H.seen store.old.shelf.now).told (H.seen store.new.shelf.now).told (λ s t. ReadsSound s → PutsCaches s t)) }
-    ensures others { Goes (H.seen store.old.shelf.now).told (H.seen store.new.shelf.now).told KeepsButSides }
-    ensures any_moment { Goes (H.seen store.old.shelf.now).told (H.seen store.new.shelf.now).told PassesButSides }
+    ensures others { Goes (H.seen store.old.shelf.now).told (H.seen store.new.shelf.now).told KeepsButCaches }
+    ensures any_moment { Goes (H.seen store.old.shelf.now).told (H.seen store.new.shelf.now).told PassesButCaches }
     ensures sound { Goes (H.seen store.old.shelf.now).told (H.seen store.new.shelf.now).told KeepsSound }
     ensures closes { LedgerCloses (store_fault store.old) (store_fault store.new) result }
     ensures kinds { store_kinds store.new ≡ store_kinds store.old }
@@ -65,8 +65,8 @@ pub fn refresh_behind<H: Shelf>(
     requires fits { FitsUnlessBroken (store_kinds store.old) (store_fault store.old) (H.seen store.old.shelf.now).told }
     ensures same_reference { store.new.shelf.ghost_name ≡ store.old.shelf.ghost_name }
     ensures refreshed { (filter_tags : List (List ℕ)) (rows : List Row) → Sums filter_tags rows summary.now → OnOk result (Goes (H.seen store.old.shelf.now).told (H.seen store.new.shelf.now).told (λ s t. HasNewRows (length (store_kinds store.old) - 1) rows s → ReadsSound s → PutsCaches s t)) }
-    ensures others { Goes (H.seen store.old.shelf.now).told (H.seen store.new.shelf.now).told KeepsButSides }
-    ensures any_moment { Goes (H.seen store.old.shelf.now).told (H.seen store.new.shelf.now).told PassesButSides }
+    ensures others { Goes (H.seen store.old.shelf.now).told (H.seen store.new.shelf.now).told KeepsButCaches }
+    ensures any_moment { Goes (H.seen store.old.shelf.now).told (H.seen store.new.shelf.now).told PassesButCaches }
     ensures sound { (filter_tags : List (List ℕ)) (rows : List Row) → Sums filter_tags rows summary.now → Goes (H.seen store.old.shelf.now).told (H.seen store.new.shelf.now).told (λ s t. HasNewRows (length (store_kinds store.old) - 1) rows s → KeepsSound s t) }
     ensures closes { LedgerCloses (store_fault store.old) (store_fault store.new) result }
     ensures kinds { store_kinds store.new ≡ store_kinds store.old }
@@ -180,8 +180,8 @@ fn put_caches<H: Shelf>(
     requires open { store_fault store.old ≡ None }
     ensures same_reference { store.new.shelf.ghost_name ≡ store.old.shelf.ghost_name }
     ensures put { OnOk result (Goes (H.seen store.old.shelf.now).told (H.seen store.new.shelf.now).told (λ s t. AreFolds ids times s → PutsCaches s t)) }
-    ensures others { Goes (H.seen store.old.shelf.now).told (H.seen store.new.shelf.now).told KeepsButSides }
-    ensures any_moment { Goes (H.seen store.old.shelf.now).told (H.seen store.new.shelf.now).told PassesButSides }
+    ensures others { Goes (H.seen store.old.shelf.now).told (H.seen store.new.shelf.now).told KeepsButCaches }
+    ensures any_moment { Goes (H.seen store.old.shelf.now).told (H.seen store.new.shelf.now).told PassesButCaches }
     ensures sound { Goes (H.seen store.old.shelf.now).told (H.seen store.new.shelf.now).told (λ s t. AreFolds ids times s → KeepsSound s t) }
     ensures closes { LedgerCloses (store_fault store.old) (store_fault store.new) result }
     ensures kinds { store_kinds store.new ≡ store_kinds store.old }
@@ -193,27 +193,27 @@ fn put_caches<H: Shelf>(
     let failing = write_failing_cache(alloc, covers, &ids)?;
     drop(ids);
     let latest = write_entries_cache(alloc, covers, times)?;
-    put_cache(store, Side::Failing, failing.bytes())?;
-    put_cache(store, Side::Times, latest.bytes())
+    put_cache(store, CacheFile::Failing, failing.bytes())?;
+    put_cache(store, CacheFile::Times, latest.bytes())
 }
 
 // Puts one of them.
 fn put_cache<H: Shelf>(
     store: &mut Store<'_, H>,
-    side: Side,
+    side: CacheFile,
     bytes: &[u8],
 ) -> Result<(), LedgerFault>
     requires fits { FitsUnlessBroken (store_kinds store.old) (store_fault store.old) (H.seen store.old.shelf.now).told }
     ensures same_reference { store.new.shelf.ghost_name ≡ store.old.shelf.ghost_name }
-    ensures kept { OnOk result (Goes (H.seen store.old.shelf.now).told (H.seen store.new.shelf.now).told (KeepsSide side bytes.now)) }
-    ensures others { Goes (H.seen store.old.shelf.now).told (H.seen store.new.shelf.now).told KeepsButSides }
-    ensures any_moment { Goes (H.seen store.old.shelf.now).told (H.seen store.new.shelf.now).told (PassesSide side bytes.now) }
+    ensures kept { OnOk result (Goes (H.seen store.old.shelf.now).told (H.seen store.new.shelf.now).told (KeepsCacheFile side bytes.now)) }
+    ensures others { Goes (H.seen store.old.shelf.now).told (H.seen store.new.shelf.now).told KeepsButCaches }
+    ensures any_moment { Goes (H.seen store.old.shelf.now).told (H.seen store.new.shelf.now).told (PassesCacheFile side bytes.now) }
     ensures closes { LedgerCloses (store_fault store.old) (store_fault store.new) result }
     ensures kinds { store_kinds store.new ≡ store_kinds store.old }
     ensures fits { FitsUnlessBroken (store_kinds store.new) (store_fault store.new) (H.seen store.new.shelf.now).told }
     ensures cause { RisesExactlyIf (H.seen store.old.shelf.now).faults (H.seen store.new.shelf.now).faults (ledger_failed result) }
     ensures time { TicksUpTo 5 (H.clock store.old.shelf.now) (H.clock store.new.shelf.now) }
 {
-    store.put_side(side, bytes)?;
+    store.put_cache_file(side, bytes)?;
     Ok(())
 }

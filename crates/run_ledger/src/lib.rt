@@ -12,7 +12,7 @@
 //! - `rows`: the rows of one run of a store
 //! - `failing_set`, `failing_change`: the ids that fail after the runs of a store, told from the last full run on
 //! - `latest_times`: the times of the ids in the runs of a store, told from the first one on
-//! - `entries`, `longest`, `merged_times`: times as the bytes of their cache, and those of one run merged into them
+//! - `entries`, `longest_times`, `merged_times`: times as the bytes of their cache, and those of one run merged into them
 //! - `cache_parts`, `failing_cache`, `times_cache`: the two caches, written and read
 //! - `cached_failing`, `cached_times`: the failing set and the times, told with the help of their caches
 //! - `fresh_caches`: both caches, written anew for the runs as they are
@@ -35,7 +35,7 @@ mod fresh_caches;
 mod lane_laws;
 mod latest_times;
 mod laws;
-mod longest;
+mod longest_times;
 mod merged_times;
 mod note_fold;
 mod rows;

@@ -12,7 +12,7 @@ ghost use Rattle.run_ledger.specs.Merging.{AreEntriesOfTimes, BeginsWithEntry, b
 
 use crate::cache_parts::split_at_mark;
 use crate::entries::Entries;
-use crate::longest::longest_times;
+use crate::longest_times::longest_times;
 use itoa::Buffer;
 use outcome_fold::{Rows, Summary, Timed};
 use std::alloc::Global;

@@ -4,7 +4,8 @@ ghost use Rattle.std.specs.Prelude.{◌≡◌, ◌++◌, ℕ, All, IfSome, IfNon
 ghost use Rattle.std.specs.List.{flat_map};
 ghost use Rattle.std.specs.FinMap.{FinMap};
 ghost use Rattle.outcome_fold.specs.Order.{text_cmp};
-ghost use Rattle.run_ledger.specs.Caches.{heading, times_title, times_cache, IsTimed, IsTimesCache};
+ghost use Rattle.run_shelf.specs.IdFiles.{heading};
+ghost use Rattle.run_ledger.specs.Caches.{times_title, times_cache, IsTimed, IsTimesCache};
 ghost use Rattle.run_ledger.specs.Cuts.{AreTimeEntries, IsTimedAt, entry_if_timed, entry_at};
 
 use crate::cache_parts::read_heading;

@@ -2,7 +2,7 @@
 
 ghost use Rattle.std.specs.Prelude.{◌≡◌, ◌≤◌, ◌<◌, [], ◌∷◌, ◌++◌, ℕ, List, length, IfOk, OnOk};
 ghost use Rattle.std.specs.Option.{option_to_list};
-ghost use Rattle.packet_codec.specs.Grammar.{Found};
+ghost use Rattle.packet_codec.specs.Grammar.{SpellsFront};
 ghost use Rattle.packet_codec.specs.Packet.{SpellsEvent};
 ghost use Rattle.packet_codec.specs.Packets.{ArePackets, ArePacketsOf};
 ghost use Rattle.packet_codec.specs.declared.event.Event.{Event};
@@ -10,9 +10,9 @@ ghost use Rattle.outcome_fold.specs.Rows.{completed_behind, completed_row, open_
 ghost use Rattle.outcome_fold.specs.Summed.{HasSummed, Sums};
 ghost use Rattle.outcome_fold.specs.declared.row.Row.{Row as ARow};
 ghost use Rattle.run_ledger.specs.Reading.{SumsRowsOf};
-ghost use Rattle.run_ledger.specs.Writing.{HasHeardEvents, HasWritten};
+ghost use Rattle.run_ledger.specs.Writing.{HasHeardEvents, HasWrittenRun};
 
-use outcome_fold::{Row, RowListener, Summary, Summing};
+use outcome_fold::{Row, RowListener, RowSums, Summary};
 use packet_codec::{Tags, front_packet};
 use std::alloc::Global;
 use sub_number::NoMemory;
@@ -21,18 +21,18 @@ use sub_number::NoMemory;
 /// not read again.
 #[derive(Drop)]
 pub struct WrittenRun {
-    summing: Summing,
+    summing: RowSums,
 }
 
 impl WrittenRun {
     /// A run of which nothing was written. A row that has one of the tags and does not fail is not counted. It takes no
     /// memory yet.
     pub fn new(alloc: Global, filter_tags: Tags) -> Self
-        ensures written { HasWritten filter_tags result [] }
+        ensures written { HasWrittenRun filter_tags result [] }
         ensures heard { HasHeardEvents filter_tags result [] }
     {
         WrittenRun {
-            summing: Summing::new(alloc, filter_tags),
+            summing: RowSums::new(alloc, filter_tags),
         }
     }
 
@@ -43,7 +43,7 @@ impl WrittenRun {
     /// is long enough for. Nothing is known then of the rows.
     pub fn hear(&mut self, written: &[u8]) -> Result<(), NoMemory>
         requires packets { ArePackets written.now }
-        ensures { (filter_tags : List (List ℕ)) (run : List ℕ) → HasWritten filter_tags self.old run → OnOk result (HasWritten filter_tags self.new (run ++ written.now)) }
+        ensures { (filter_tags : List (List ℕ)) (run : List ℕ) → HasWrittenRun filter_tags self.old run → OnOk result (HasWrittenRun filter_tags self.new (run ++ written.now)) }
     {
         self.hear_with(written, &mut DeafToRows)
     }
@@ -56,7 +56,7 @@ impl WrittenRun {
         listener: &mut L,
     ) -> Result<(), NoMemory>
         requires packets { ArePackets written.now }
-        ensures written { (filter_tags : List (List ℕ)) (run : List ℕ) → HasWritten filter_tags self.old run → OnOk result (HasWritten filter_tags self.new (run ++ written.now)) }
+        ensures written { (filter_tags : List (List ℕ)) (run : List ℕ) → HasWrittenRun filter_tags self.old run → OnOk result (HasWrittenRun filter_tags self.new (run ++ written.now)) }
         ensures summed { (filter_tags : List (List ℕ)) (seen events : List Event) → ArePacketsOf events written.now → HasHeardEvents filter_tags self.old seen → OnOk result (HasHeardEvents filter_tags self.new (seen ++ events)) }
         ensures heard { (filter_tags : List (List ℕ)) (seen events : List Event) (begun : L) (rows : List ARow) → ArePacketsOf events written.now → HasHeardEvents filter_tags self.old seen → L.heard begun listener.old rows → OnOk result (L.heard begun listener.new (rows ++ completed_behind seen events)) }
     {
@@ -67,7 +67,7 @@ impl WrittenRun {
     ///
     /// `NoMemory` comes as by `hear`.
     pub fn close(self) -> Result<Summary, NoMemory>
-        ensures { (filter_tags : List (List ℕ)) (run : List ℕ) → HasWritten filter_tags self run → IfOk result (SumsRowsOf filter_tags run) }
+        ensures { (filter_tags : List (List ℕ)) (run : List ℕ) → HasWrittenRun filter_tags self run → IfOk result (SumsRowsOf filter_tags run) }
     {
         self.close_with(&mut DeafToRows)
     }
@@ -76,7 +76,7 @@ impl WrittenRun {
     ///
     /// `NoMemory` comes as by `hear_with`.
     pub fn close_with<L: RowListener>(self, listener: &mut L) -> Result<Summary, NoMemory>
-        ensures sums { (filter_tags : List (List ℕ)) (run : List ℕ) → HasWritten filter_tags self run → IfOk result (SumsRowsOf filter_tags run) }
+        ensures sums { (filter_tags : List (List ℕ)) (run : List ℕ) → HasWrittenRun filter_tags self run → IfOk result (SumsRowsOf filter_tags run) }
         ensures rows { (filter_tags : List (List ℕ)) (seen : List Event) → HasHeardEvents filter_tags self seen → IfOk result (Sums filter_tags (rows_of seen)) }
         ensures heard { (filter_tags : List (List ℕ)) (seen : List Event) (begun : L) (rows : List ARow) → HasHeardEvents filter_tags self seen → L.heard begun listener.old rows → OnOk result (L.heard begun listener.new (rows ++ open_rows seen)) }
     {
@@ -101,7 +101,7 @@ impl RowListener for DeafToRows {
 // Hears the packets that the bytes are.
 fn hear_packets<L: RowListener>(
     bytes: &[u8],
-    summing: &mut Summing,
+    summing: &mut RowSums,
     listener: &mut L,
 ) -> Result<(), NoMemory>
     requires packets { ArePackets bytes.now }
@@ -119,14 +119,14 @@ fn hear_packets<L: RowListener>(
 // Hears the packet that the bytes begin with, and answers its size.
 fn hear_packet<L: RowListener>(
     bytes: &[u8],
-    summing: &mut Summing,
+    summing: &mut RowSums,
     listener: &mut L,
 ) -> Result<usize, NoMemory>
-    requires packet { (event : Event) × (behind : List ℕ) × Found SpellsEvent bytes.now event behind }
+    requires packet { (event : Event) × (behind : List ℕ) × SpellsFront SpellsEvent bytes.now event behind }
     ensures in_range { IfOk result (λ size. (0 < size) × (size ≤ length bytes.now)) }
-    ensures size { (event : Event) (behind : List ℕ) → (found : Found SpellsEvent bytes.now event behind) → IfOk result (λ size. size ≡ length found.front) }
-    ensures summed { (filter_tags : List (List ℕ)) (seen : List Event) (event : Event) (behind : List ℕ) → Found SpellsEvent bytes.now event behind → HasSummed filter_tags summing.old seen → OnOk result (HasSummed filter_tags summing.new (seen ++ event ∷ [])) }
-    ensures heard { (filter_tags : List (List ℕ)) (seen : List Event) (event : Event) (behind : List ℕ) (begun : L) (rows : List ARow) → Found SpellsEvent bytes.now event behind → HasSummed filter_tags summing.old seen → L.heard begun listener.old rows → OnOk result (L.heard begun listener.new (rows ++ option_to_list (completed_row seen event))) }
+    ensures size { (event : Event) (behind : List ℕ) → (found : SpellsFront SpellsEvent bytes.now event behind) → IfOk result (λ size. size ≡ length found.front) }
+    ensures summed { (filter_tags : List (List ℕ)) (seen : List Event) (event : Event) (behind : List ℕ) → SpellsFront SpellsEvent bytes.now event behind → HasSummed filter_tags summing.old seen → OnOk result (HasSummed filter_tags summing.new (seen ++ event ∷ [])) }
+    ensures heard { (filter_tags : List (List ℕ)) (seen : List Event) (event : Event) (behind : List ℕ) (begun : L) (rows : List ARow) → SpellsFront SpellsEvent bytes.now event behind → HasSummed filter_tags summing.old seen → L.heard begun listener.old rows → OnOk result (L.heard begun listener.new (rows ++ option_to_list (completed_row seen event))) }
 {
     let packet = front_packet(bytes);
     summing.hear_with(&packet, listener)?;

@@ -8,7 +8,7 @@ use Rattle.edge_io.proofs.Going.{goes_then, goes_weaker}
 use Rattle.edge_io.proofs.Passing.{passes_then, passes_weaker}
 use Rattle.run_shelf.specs.declared.faults.ShelfCall.{ShelfCall}
 use Rattle.run_shelf.specs.declared.faults.ShelfCall.TheVariants.{Names, Length, ReadAt, StartDraft, Append, SyncDraft, Publish, SyncFolder}
-use Rattle.run_shelf.specs.Adoption.{IsConverted, IsReady, IsAdopted, IsOnTheWay, PassesAdoption, Adopts, AdoptFails}
+use Rattle.run_shelf.specs.Adoption.{IsConverted, IsReadyToAdopt, IsAdopted, IsBeingAdopted, PassesAdoption, Adopts, AdoptFails}
 use Rattle.run_shelf.specs.Bases.{Base, base_name, base_in, HoldsBase}
 use Rattle.run_shelf.specs.Images.{AtRest, KeepsFile, PassesFile}
 use Rattle.run_shelf.specs.Outcomes.{KeepFails}
@@ -104,7 +104,7 @@ module _ (files : Files) (bytes : List ℕ) (holds : HoldsBase bytes) (converted
   }
 
 -- a base, and then the format
-module _ (bytes : List ℕ) (holds : HoldsBase bytes) (s m : Folder) (ready : IsReady (base_in bytes).count s) (kept : KeepsFile base_name bytes s m) where
+module _ (bytes : List ℕ) (holds : HoldsBase bytes) (s m : Folder) (ready : IsReadyToAdopt (base_in bytes).count s) (kept : KeepsFile base_name bytes s m) where
   published : m.disk.published ≡ put s.disk.published base_name bytes
   published = ap (λ (d : Disk). d.published) kept
 
@@ -114,7 +114,7 @@ module _ (bytes : List ℕ) (holds : HoldsBase bytes) (s m : Folder) (ready : Is
   next : (image : Files) → image ≡ put m.disk.published format_name based_format_bytes → IsAdopted bytes s.disk.published image
   next image is = is_adopted s.disk.published bytes holds ready.converted image (is ∙ ap (λ (f : Files). put f format_name based_format_bytes) published)
 
-  second : (image : Files) → IsImage m.disk image ⊎ (image ≡ put m.disk.published format_name based_format_bytes) → IsImage s.disk image ⊎ IsOnTheWay bytes s.disk.published image
+  second : (image : Files) → IsImage m.disk image ⊎ (image ≡ put m.disk.published format_name based_format_bytes) → IsImage s.disk image ⊎ IsBeingAdopted bytes s.disk.published image
   second image (inl left) = inr (inl (rest_images (put s.disk.published base_name bytes) image (subst (λ (d : Disk). IsImage d image) kept left)))
   second image (inr is) = inr (inr (next image is))
 
@@ -155,9 +155,9 @@ fails_first bytes Publish s t (inr reads) = inr (inl reads)
 fails_first bytes SyncFolder s t fails = inr (inl fails)
 
 first_passes : (bytes : List ℕ) (s t : Folder) → PassesFile base_name bytes s t → PassesAdoption bytes s t
-first_passes bytes s t passes = passes_weaker (λ image. IsImage s.disk image ⊎ (image ≡ put s.disk.published base_name bytes)) (λ image. IsImage s.disk image ⊎ IsOnTheWay bytes s.disk.published image) by s t passes
+first_passes bytes s t passes = passes_weaker (λ image. IsImage s.disk image ⊎ (image ≡ put s.disk.published base_name bytes)) (λ image. IsImage s.disk image ⊎ IsBeingAdopted bytes s.disk.published image) by s t passes
   where
-    by : (image : Files) → IsImage s.disk image ⊎ (image ≡ put s.disk.published base_name bytes) → IsImage s.disk image ⊎ IsOnTheWay bytes s.disk.published image
+    by : (image : Files) → IsImage s.disk image ⊎ (image ≡ put s.disk.published base_name bytes) → IsImage s.disk image ⊎ IsBeingAdopted bytes s.disk.published image
     by image (inl left) = inl left
     by image (inr is) = inr (inl is)
 
@@ -172,31 +172,31 @@ module _ (bytes : List ℕ) (a b : Option Folder) where
   pub rests_then : Goes a b (KeepsFile base_name bytes) → IfSome b AtRest
   rests_then kept = some_after a b (KeepsFile base_name bytes) AtRest kept (λ s t is. is ∙ ap at_rest (sym (ap (λ (d : Disk). d.published) is)))
 
-  module _ (c : Option Folder) (holds : HoldsBase bytes) (ready : IfSome a (IsReady (base_in bytes).count)) (kept : Goes a b (KeepsFile base_name bytes)) where
-    both : Goes a b (λ s m. IsReady (base_in bytes).count s × KeepsFile base_name bytes s m)
-    both = goes_with a b (IsReady (base_in bytes).count) (KeepsFile base_name bytes) ready kept
+  module _ (c : Option Folder) (holds : HoldsBase bytes) (ready : IfSome a (IsReadyToAdopt (base_in bytes).count)) (kept : Goes a b (KeepsFile base_name bytes)) where
+    both : Goes a b (λ s m. IsReadyToAdopt (base_in bytes).count s × KeepsFile base_name bytes s m)
+    both = goes_with a b (IsReadyToAdopt (base_in bytes).count) (KeepsFile base_name bytes) ready kept
 
     pub goes_adopts : Goes b c (KeepsFile format_name based_format_bytes) → Goes a c (Adopts bytes)
     goes_adopts then_kept =
-        goes_then a b c (λ s m. IsReady (base_in bytes).count s × KeepsFile base_name bytes s m) (KeepsFile format_name based_format_bytes) (Adopts bytes) both then_kept
+        goes_then a b c (λ s m. IsReadyToAdopt (base_in bytes).count s × KeepsFile base_name bytes s m) (KeepsFile format_name based_format_bytes) (Adopts bytes) both then_kept
         (λ s m t first last. adopts bytes holds s m first.0 first.1 t last)
 
     pub goes_fails_then : (call : ShelfCall) → Goes b c (KeepFails format_name based_format_bytes call) → Goes a c (AdoptFails bytes)
     goes_fails_then call fails =
-        goes_then a b c (λ s m. IsReady (base_in bytes).count s × KeepsFile base_name bytes s m) (KeepFails format_name based_format_bytes call) (AdoptFails bytes) both fails
+        goes_then a b c (λ s m. IsReadyToAdopt (base_in bytes).count s × KeepsFile base_name bytes s m) (KeepFails format_name based_format_bytes call) (AdoptFails bytes) both fails
         (λ s m t first last. fails_then bytes holds s m first.0 first.1 call t last)
 
     pub goes_passes_then : Goes a b (PassesFile base_name bytes) → Goes b c (PassesFile format_name based_format_bytes) → Goes a c (PassesAdoption bytes)
     goes_passes_then passes last =
-        let First : Folder → Folder → Type 0 = λ s m. (IsReady (base_in bytes).count s × KeepsFile base_name bytes s m) × PassesFile base_name bytes s m in
+        let First : Folder → Folder → Type 0 = λ s m. (IsReadyToAdopt (base_in bytes).count s × KeepsFile base_name bytes s m) × PassesFile base_name bytes s m in
         goes_then a b c First (PassesFile format_name based_format_bytes) (PassesAdoption bytes) (along a b both passes) last
         (λ s m t first then_passes.
-        passes_then (λ image. IsImage s.disk image ⊎ IsOnTheWay bytes s.disk.published image) s m t (first_passes bytes s m first.1)
-        (passes_weaker (λ image. IsImage m.disk image ⊎ (image ≡ put m.disk.published format_name based_format_bytes)) (λ image. IsImage s.disk image ⊎ IsOnTheWay bytes s.disk.published image)
+        passes_then (λ image. IsImage s.disk image ⊎ IsBeingAdopted bytes s.disk.published image) s m t (first_passes bytes s m first.1)
+        (passes_weaker (λ image. IsImage m.disk image ⊎ (image ≡ put m.disk.published format_name based_format_bytes)) (λ image. IsImage s.disk image ⊎ IsBeingAdopted bytes s.disk.published image)
         (second bytes holds s m first.0.0 first.0.1) m t then_passes))
       where
-        along : (a b : Option Folder) → Goes a b (λ s m. IsReady (base_in bytes).count s × KeepsFile base_name bytes s m) → Goes a b (PassesFile base_name bytes)
-            → Goes a b (λ s m. (IsReady (base_in bytes).count s × KeepsFile base_name bytes s m) × PassesFile base_name bytes s m)
+        along : (a b : Option Folder) → Goes a b (λ s m. IsReadyToAdopt (base_in bytes).count s × KeepsFile base_name bytes s m) → Goes a b (PassesFile base_name bytes)
+            → Goes a b (λ s m. (IsReadyToAdopt (base_in bytes).count s × KeepsFile base_name bytes s m) × PassesFile base_name bytes s m)
         along None None p q = tt
         along None (Some t) p q = absurd p
         along (Some s) None p q = absurd p

@@ -12,11 +12,12 @@ use Rattle.std.proofs.lemmas.Fmt.{decimal_is_IsNumeral}
 use Rattle.std.proofs.lemmas.Slice.Eq.{bytes_eq-Decides}
 use Rattle.std.proofs.lemmas.List.Elements.{All-nil, All-cons, All-head, All-tail}
 use Rattle.sub_number.specs.Texts.{IsShortText}
+use Rattle.sub_number.specs.Lines.{with_newline}
 use Rattle.edge_io.specs.Disk.{Files, Folder}
 use Rattle.run_shelf.specs.declared.base_set.Base.{Base as ABase}
 use Rattle.run_shelf.specs.Looking.{seen_base, ReadsBase, CountsOld}
-use Rattle.run_shelf.specs.Bases.{Base, no_base, base_name, base_title, IsBase, first_line, behind_line, onto_first, pieces, base_in, HoldsBase}
-use Rattle.run_shelf.specs.IdFiles.{line, entry, Lacks}
+use Rattle.run_shelf.specs.Bases.{Base, no_base, base_name, base_title, IsBase, first_line, behind_line, onto_first, zero_ended_pieces, base_in, HoldsBase}
+use Rattle.run_shelf.specs.IdFiles.{with_zero, Lacks}
 use Rattle.run_shelf.specs.Repository.{format_name, format_bytes, based_format_bytes, is_based, base_under, base_of, HasFormat, HasBasedFormat, HasBaseForm, LacksBaseForm, HasGoodBase, run_of_files, run_at, full_name, partial_name, most_runs}
 use Rattle.run_shelf.proofs.IdFormLemmas.{decimal_digits, no_zero, piece_behind}
 use Rattle.run_shelf.proofs.IdHeadLemmas.{line_rest}
@@ -35,17 +36,17 @@ behind_is (x ∷ text) rest lacks =
     ap (λ b. cond b (text ++ 10 ∷ rest) (behind_line (text ++ 10 ∷ rest))) (ne_eqb x 10 (All-head (λ b. b ≢ 10) x text lacks))
     ∙ behind_is text rest (All-tail (λ b. b ≢ 10) x text lacks)
 
-pieces_cut : (text rest : List ℕ) → Lacks 0 text → pieces (text ++ 0 ∷ rest) ≡ text ∷ pieces rest
+pieces_cut : (text rest : List ℕ) → Lacks 0 text → zero_ended_pieces (text ++ 0 ∷ rest) ≡ text ∷ zero_ended_pieces rest
 pieces_cut [] rest lacks = refl
 pieces_cut (x ∷ text) rest lacks =
-    ap (λ b. cond b ([] ∷ pieces (text ++ 0 ∷ rest)) (onto_first x (pieces (text ++ 0 ∷ rest)))) (ne_eqb x 0 (All-head (λ b. b ≢ 0) x text lacks))
+    ap (λ b. cond b ([] ∷ zero_ended_pieces (text ++ 0 ∷ rest)) (onto_first x (zero_ended_pieces (text ++ 0 ∷ rest)))) (ne_eqb x 0 (All-head (λ b. b ≢ 0) x text lacks))
     ∙ ap (onto_first x) (pieces_cut text rest (All-tail (λ b. b ≢ 0) x text lacks))
 
-pieces_are : (ids : List (List ℕ)) → All IsShortText ids → pieces (flat_map entry ids) ≡ ids
+pieces_are : (ids : List (List ℕ)) → All IsShortText ids → zero_ended_pieces (flat_map with_zero ids) ≡ ids
 pieces_are [] texts = refl
 pieces_are (id ∷ ids) texts =
-    ap pieces (piece_behind 0 id (flat_map entry ids))
-    ∙ pieces_cut id (flat_map entry ids) (no_zero id (All-head IsShortText id ids texts))
+    ap zero_ended_pieces (piece_behind 0 id (flat_map with_zero ids))
+    ∙ pieces_cut id (flat_map with_zero ids) (no_zero id (All-head IsShortText id ids texts))
     ∙ ap (λ l. id ∷ l) (pieces_are ids (All-tail IsShortText id ids texts))
 
 lacks_test : List ℕ → Bool
@@ -67,15 +68,15 @@ lacks_newline = lacks_by base_title refl
 
 module _ (bytes : List ℕ) (base : Base) (is : IsBase bytes base) where
   abbrev rest : List ℕ
-  rest = flat_map entry base.ids
+  rest = flat_map with_zero base.ids
 
   small : base.count < 2 ^ 64
   small = is.file.small
 
   whole : bytes ≡ base_title ++ 10 ∷ (decimal base.count ++ 10 ∷ rest)
   whole =
-      is.file.is ∙ append_assoc (line base_title) (line (decimal base.count)) rest
-      ∙ line_rest base_title (line (decimal base.count) ++ rest)
+      is.file.is ∙ append_assoc (with_newline base_title) (with_newline (decimal base.count)) rest
+      ∙ line_rest base_title (with_newline (decimal base.count) ++ rest)
       ∙ ap (λ l. base_title ++ 10 ∷ l) (line_rest (decimal base.count) rest)
 
   behind : behind_line bytes ≡ decimal base.count ++ 10 ∷ rest
@@ -87,8 +88,8 @@ module _ (bytes : List ℕ) (base : Base) (is : IsBase bytes base) where
   counted : digits_value 10 (first_line (behind_line bytes)) ≡ base.count
   counted = ap (λ l. digits_value 10 (first_line l)) behind ∙ ap (digits_value 10) (first_is (decimal base.count) rest no_newline) ∙ (decimal_is_IsNumeral base.count small).1
 
-  listed : pieces (behind_line (behind_line bytes)) ≡ base.ids
-  listed = ap (λ l. pieces (behind_line l)) behind ∙ ap pieces (behind_is (decimal base.count) rest no_newline) ∙ pieces_are base.ids is.file.are.texts
+  listed : zero_ended_pieces (behind_line (behind_line bytes)) ≡ base.ids
+  listed = ap (λ l. zero_ended_pieces (behind_line l)) behind ∙ ap zero_ended_pieces (behind_is (decimal base.count) rest no_newline) ∙ pieces_are base.ids is.file.are.texts
 
   pub tells : base_in bytes ≡ base
   unfolding base_in

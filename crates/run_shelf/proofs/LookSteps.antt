@@ -211,33 +211,33 @@ both_some None P Q R p q f = tt
 both_some (Some s) P Q R p q f = f s p q
 
 -- what is known of a folder before its names are looked at
-pub record Counted (old : ℕ) (s : Folder) : Type 0 where
+pub record IsCountedFolder (old : ℕ) (s : Folder) : Type 0 where
   format : HasFormat s.disk.published
   counts : CountsOld old s
 
-pub counted_by : (format : Format) (old : ℕ) (a : Option Folder) → IfSome a (HasThisFormat format) → IfSome a (CountsOld old) → IfSome a (Counted old)
-counted_by format old a this counts = both_some a (HasThisFormat format) (CountsOld old) (Counted old) this counts (λ s right count. record { format = either format s right; counts = count })
+pub counted_by : (format : Format) (old : ℕ) (a : Option Folder) → IfSome a (HasThisFormat format) → IfSome a (CountsOld old) → IfSome a (IsCountedFolder old)
+counted_by format old a this counts = both_some a (HasThisFormat format) (CountsOld old) (IsCountedFolder old) this counts (λ s right count. record { format = either format s right; counts = count })
   where
     either : (format : Format) (s : Folder) → HasThisFormat format s → HasFormat s.disk.published
     either First s right = inl right
     either Second s right = inr right
 
-module _ (a : Option Folder) (names : List (List ℕ)) (old : ℕ) (known : IfSome a (Counted old)) (lists : ListsNames a names) where
+module _ (a : Option Folder) (names : List (List ℕ)) (old : ℕ) (known : IfSome a (IsCountedFolder old)) (lists : ListsNames a names) where
   pub looks_like : (kinds : List Bool) → NamesTellKinds names old kinds → IfSome a (ShowsKinds kinds)
   looks_like kinds have =
-      both_some a (Counted old) (λ s. AreNamesOf s.disk.published names) (ShowsKinds kinds) known lists
+      both_some a (IsCountedFolder old) (λ s. AreNamesOf s.disk.published names) (ShowsKinds kinds) known lists
       (λ s know are.
       let has = kinds_are s.disk.published names are old know.counts.is know.counts.form kinds have in
       record { repository = repository_is s.disk.published kinds know.format know.counts.form (omega (arith, know.counts.is, have.enough)) has; kinds_are = has })
 
   pub gap_known : (number : ℕ) → NamesTellGap names old number → IfSome a (λ s. HasFormat s.disk.published × IsGap s.disk.published number)
   gap_known number gap =
-      both_some a (Counted old) (λ s. AreNamesOf s.disk.published names) (λ s. HasFormat s.disk.published × IsGap s.disk.published number) known lists
+      both_some a (IsCountedFolder old) (λ s. AreNamesOf s.disk.published names) (λ s. HasFormat s.disk.published × IsGap s.disk.published number) known lists
       (λ s know are. (know.format, gap_is s.disk.published names are old know.counts.is know.counts.form number gap))
 
   pub lacks_known : LacksOldName names old → IfSome a (λ s. HasFormat s.disk.published × HasBadBase s.disk.published)
   lacks_known lacks =
-      both_some a (Counted old) (λ s. AreNamesOf s.disk.published names) (λ s. HasFormat s.disk.published × HasBadBase s.disk.published) known lists
+      both_some a (IsCountedFolder old) (λ s. AreNamesOf s.disk.published names) (λ s. HasFormat s.disk.published × HasBadBase s.disk.published) known lists
       (λ s know are. (know.format, inr (lacks_is s.disk.published names are old know.counts.is know.counts.form lacks)))
 
   pub names_fail : (fault : OpenFault) (b : Option Folder) → Goes a b Stays → NamesFail names old fault → Goes a b (LookFails fault)

@@ -10,9 +10,9 @@ use Rattle.std.proofs.lemmas.List.{append_cancel_right, take-append-drop}
 use Rattle.std.proofs.lemmas.Fmt.{decimal_injective, decimal_digit, decimal_step, decimal_by_steps}
 use Rattle.run_shelf.specs.Repository.{full_name, partial_name, run_name, format_name}
 use Rattle.run_shelf.specs.Bases.{base_name}
-use Rattle.run_shelf.specs.Sides.{side_name}
-use Rattle.run_shelf.specs.declared.side.Side.{Side}
-use Rattle.run_shelf.specs.declared.side.Side.TheVariants.{Failing, Times}
+use Rattle.run_shelf.specs.Sides.{cache_file_name}
+use Rattle.run_shelf.specs.declared.cache_file.CacheFile.{CacheFile}
+use Rattle.run_shelf.specs.declared.cache_file.CacheFile.TheVariants.{Failing, Times}
 
 last : List ℕ → ℕ
 last [] = 0
@@ -74,7 +74,7 @@ format_differs number false fits same =
     omega (arith, digit.digit, sym first_of_format ∙ ap (λ (l : List ℕ). get_or l 0 0) same)
 
 -- nor does a file of a cache have the name of a run
-first_of_side : (side : Side) → 57 < get_or (side_name side) 0 0
+first_of_side : (side : CacheFile) → 57 < get_or (cache_file_name side) 0 0
 first_of_side Failing = omega arith
 first_of_side Times = omega arith
 
@@ -84,7 +84,7 @@ first_of_run number true fits =
     omega (arith, digit.digit, first_of (decimal number) (codes ".part") digit.some)
 first_of_run number false fits = (begins number fits).digit
 
-pub side_differs : (side : Side) (number : ℕ) (partial : Bool) → number < 2 ^ 64 → run_name number partial ≡ side_name side → ⊥
+pub side_differs : (side : CacheFile) (number : ℕ) (partial : Bool) → number < 2 ^ 64 → run_name number partial ≡ cache_file_name side → ⊥
 side_differs side number partial fits same =
     omega (arith, first_of_run number partial fits, first_of_side side, ap (λ (l : List ℕ). get_or l 0 0) same)
 
@@ -96,24 +96,24 @@ base_differs number partial fits same = omega (arith, first_of_run number partia
     first_of_base = refl
 
 -- and it is not that of a cache
-pub base_no_side : (side : Side) → base_name ≡ side_name side → ⊥
+pub base_no_side : (side : CacheFile) → base_name ≡ cache_file_name side → ⊥
 base_no_side side same = omega (arith, ap (λ (l : List ℕ). get_or l 0 0) same, first_of_base, first_is side)
   where
     first_of_base : get_or base_name 0 0 ≡ 98
     first_of_base = refl
 
-    first_is : (side : Side) → 98 < get_or (side_name side) 0 0
+    first_is : (side : CacheFile) → 98 < get_or (cache_file_name side) 0 0
     first_is Failing = omega arith
     first_is Times = omega arith
 
 second_of_format : get_or format_name 1 0 ≡ 111
 second_of_format = refl
 
-second_of_side : (side : Side) → get_or (side_name side) 1 0 ≤ 105
+second_of_side : (side : CacheFile) → get_or (cache_file_name side) 1 0 ≤ 105
 second_of_side Failing = omega arith
 second_of_side Times = omega arith
 
-pub side_no_format : (side : Side) → format_name ≡ side_name side → ⊥
+pub side_no_format : (side : CacheFile) → format_name ≡ cache_file_name side → ⊥
 side_no_format side same = omega (arith, second_of_format, second_of_side side, ap (λ (l : List ℕ). get_or l 1 0) same)
 
 -- so a name tells number and kind

@@ -4,14 +4,14 @@ use Rattle.std.specs.Option.{option_map}
 use Rattle.edge_io.specs.Disk.{Files, put}
 use Rattle.run_shelf.specs.Bases.{base_name}
 use Rattle.run_shelf.specs.Repository.{Run, base_of, run_at, run_name, most_runs, Shows, HasKinds, IsRepository, format_name}
-use Rattle.run_shelf.specs.Sides.{side_name, SameButSides}
-use Rattle.run_shelf.specs.declared.side.Side.{Side}
-use Rattle.run_shelf.specs.declared.side.Side.TheVariants.{Failing, Times}
+use Rattle.run_shelf.specs.Sides.{cache_file_name, SameButCaches}
+use Rattle.run_shelf.specs.declared.cache_file.CacheFile.{CacheFile}
+use Rattle.run_shelf.specs.declared.cache_file.CacheFile.TheVariants.{Failing, Times}
 use Rattle.run_shelf.proofs.BaseLemmas.{format_still, base_still, good_still, run_still}
 use Rattle.run_shelf.proofs.NameLemmas.{side_differs, side_no_format, base_no_side}
 use Rattle.run_shelf.proofs.RunLemmas.{put_other}
 
-module _ (files image : Files) (same : SameButSides files image) where
+module _ (files image : Files) (same : SameButCaches files image) where
   file_stays : (k : ℕ) (partial : Bool) → k < most_runs → image (run_name k partial) ≡ files (run_name k partial)
   file_stays k partial few = same.each (run_name k partial) (side_differs Failing k partial (omega (arith, few))) (side_differs Times k partial (omega (arith, few)))
 
@@ -40,12 +40,12 @@ module _ (files image : Files) (same : SameButSides files image) where
     no_gap = λ k other less few some. subst IsSome (sym (run_stays k (omega (arith, less, few)))) (repository.no_gap k other less few (subst IsSome (run_stays other few) some));
   }
 
-pub same_put : (files : Files) (side : Side) (bytes : List ℕ) → SameButSides files (put files (side_name side) bytes)
-same_put files Failing bytes = record { each = λ name failing times. put_other files (side_name Failing) bytes name failing }
-same_put files Times bytes = record { each = λ name failing times. put_other files (side_name Times) bytes name times }
+pub same_put : (files : Files) (side : CacheFile) (bytes : List ℕ) → SameButCaches files (put files (cache_file_name side) bytes)
+same_put files Failing bytes = record { each = λ name failing times. put_other files (cache_file_name Failing) bytes name failing }
+same_put files Times bytes = record { each = λ name failing times. put_other files (cache_file_name Times) bytes name times }
 
-pub same_itself : (files : Files) → SameButSides files files
+pub same_itself : (files : Files) → SameButCaches files files
 same_itself files = record { each = λ name failing times. refl }
 
-pub same_then : (files middle image : Files) → SameButSides files middle → SameButSides middle image → SameButSides files image
+pub same_then : (files middle image : Files) → SameButCaches files middle → SameButCaches middle image → SameButCaches files image
 same_then files middle image first second = record { each = λ name failing times. second.each name failing times ∙ first.each name failing times }

@@ -22,7 +22,7 @@ pub record IsConverted (count : ℕ) (files : Files) : Type 0 where
   pub behind : (number : ℕ) (partial : Bool) → count ≤ number → number < most_runs → files (run_name number partial) ≡ None
 
 -- nothing is pending, and so many runs stand converted
-pub record IsReady (count : ℕ) (s : Folder) : Type 0 where
+pub record IsReadyToAdopt (count : ℕ) (s : Folder) : Type 0 where
   pub rest : AtRest s
   pub converted : IsConverted count s.disk.published
 
@@ -34,12 +34,12 @@ pub record IsAdopted (bytes : List ℕ) (files image : Files) : Type 0 where
   pub runs : (number : ℕ) → number < most_runs → run_at image number ≡ option_map (run_of true) (files (partial_name number))
 
 -- a base beside the files, whose format is as it was; or they were taken over
-abbrev pub IsOnTheWay : List ℕ → Files → Files → Type 0
-IsOnTheWay bytes files image = (image ≡ put files base_name bytes) ⊎ IsAdopted bytes files image
+abbrev pub IsBeingAdopted : List ℕ → Files → Files → Type 0
+IsBeingAdopted bytes files image = (image ≡ put files base_name bytes) ⊎ IsAdopted bytes files image
 
 -- a stop at each moment leaves what one at the first might have left, or one of these
 abbrev pub PassesAdoption : List ℕ → Folder → Folder → Type 0
-PassesAdoption bytes s t = Passes (λ image. IsImage s.disk image ⊎ IsOnTheWay bytes s.disk.published image) s t
+PassesAdoption bytes s t = Passes (λ image. IsImage s.disk image ⊎ IsBeingAdopted bytes s.disk.published image) s t
 
 -- the folder was taken over for good, and each later stop leaves it so
 pub record Adopts (bytes : List ℕ) (s t : Folder) : Type 0 where
@@ -48,7 +48,7 @@ pub record Adopts (bytes : List ℕ) (s t : Folder) : Type 0 where
 
 -- a call failed: reads give the files as they were, or one of these
 abbrev pub AdoptFails : List ℕ → Folder → Folder → Type 0
-AdoptFails bytes s t = (t.disk.published ≡ s.disk.published) ⊎ IsOnTheWay bytes s.disk.published t.disk.published
+AdoptFails bytes s t = (t.disk.published ≡ s.disk.published) ⊎ IsBeingAdopted bytes s.disk.published t.disk.published
 
 -- ---- before that
 

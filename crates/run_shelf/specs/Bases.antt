@@ -44,14 +44,14 @@ onto_first byte [] = []
 onto_first byte (piece ∷ pieces) = (byte ∷ piece) ∷ pieces
 
 -- the pieces that a zero byte ends, each without it
-abbrev pub pieces : List ℕ → List (List ℕ)
-pieces [] = []
-pieces (byte ∷ bytes) = if byte == 0 then [] ∷ pieces bytes else onto_first byte (pieces bytes)
+abbrev pub zero_ended_pieces : List ℕ → List (List ℕ)
+zero_ended_pieces [] = []
+zero_ended_pieces (byte ∷ bytes) = if byte == 0 then [] ∷ zero_ended_pieces bytes else onto_first byte (zero_ended_pieces bytes)
 
 -- what the bytes tell as a base: the number in their second line, and the ids behind that line; of bytes that hold a
 -- base it is that one
 unfoldable pub base_in : List ℕ → Base
-base_in bytes = record { count = digits_value 10 (first_line (behind_line bytes)); ids = pieces (behind_line (behind_line bytes)) }
+base_in bytes = record { count = digits_value 10 (first_line (behind_line bytes)); ids = zero_ended_pieces (behind_line (behind_line bytes)) }
 
 -- the bytes hold a base, which is the one that they tell
 abbrev pub HoldsBase : List ℕ → Type 0

@@ -9,56 +9,56 @@ use Rattle.run_shelf.specs.declared.faults.StoreFault.{StoreFault}
 use Rattle.run_shelf.specs.declared.faults.StoreFault.TheVariants.{Shelf, Closed}
 use Rattle.run_shelf.specs.declared.faults.FileFault.{FileFault}
 use Rattle.run_shelf.specs.declared.faults.FileFault.TheVariants as file_fault
-use Rattle.run_shelf.specs.declared.faults.SideFault.{SideFault}
-use Rattle.run_shelf.specs.declared.faults.SideFault.TheVariants.{Store, NoMemory}
-use Rattle.run_shelf.specs.declared.side.Side.{Side}
-use Rattle.run_shelf.specs.declared.side.Side.TheVariants.{Failing, Times}
+use Rattle.run_shelf.specs.declared.faults.CacheFileFault.{CacheFileFault}
+use Rattle.run_shelf.specs.declared.faults.CacheFileFault.TheVariants.{Store, NoMemory}
+use Rattle.run_shelf.specs.declared.cache_file.CacheFile.{CacheFile}
+use Rattle.run_shelf.specs.declared.cache_file.CacheFile.TheVariants.{Failing, Times}
 use Rattle.run_shelf.specs.Outcomes.{KeepFails}
 use Rattle.run_shelf.specs.Repository.{Run, Shows, IsRepository}
 use Rattle.run_shelf.specs.Stores.{StoreSeen, Reads}
 
 -- the name of a cache's file
-abbrev pub side_name : Side → List ℕ
-side_name Failing = codes "failing.set"
-side_name Times = codes "times.set"
+abbrev pub cache_file_name : CacheFile → List ℕ
+cache_file_name Failing = codes "failing.set"
+cache_file_name Times = codes "times.set"
 
 -- Equal but for the files of the caches. So the runs are the same.
-pub record SameButSides (files image : Files) : Type 0 where
-  pub each : (name : List ℕ) → name ≢ side_name Failing → name ≢ side_name Times → image name ≡ files name
+pub record SameButCaches (files image : Files) : Type 0 where
+  pub each : (name : List ℕ) → name ≢ cache_file_name Failing → name ≢ cache_file_name Times → image name ≡ files name
 
 -- a stop at each moment leaves what one at the first might have left, or files that differ from those read then in the
 -- caches alone
-abbrev pub PassesButSides : Folder → Folder → Type 0
-PassesButSides s t = Passes (λ image. IsImage s.disk image ⊎ SameButSides s.disk.published image) s t
+abbrev pub PassesButCaches : Folder → Folder → Type 0
+PassesButCaches s t = Passes (λ image. IsImage s.disk image ⊎ SameButCaches s.disk.published image) s t
 
 -- reads give files that differ in the caches alone
-abbrev pub KeepsButSides : Folder → Folder → Type 0
-KeepsButSides s t = SameButSides s.disk.published t.disk.published
+abbrev pub KeepsButCaches : Folder → Folder → Type 0
+KeepsButCaches s t = SameButCaches s.disk.published t.disk.published
 
 -- what the file holds, and none where it is not there
-abbrev pub HoldsSide : Side → Option (List ℕ) → Folder → Type 0
-HoldsSide side found s = found ≡ s.disk.published (side_name side)
+abbrev pub HoldsCacheFile : CacheFile → Option (List ℕ) → Folder → Type 0
+HoldsCacheFile side found s = found ≡ s.disk.published (cache_file_name side)
 
 -- The files and this one beside them, in place of any other of its name. Nothing else differs, so the runs are as they
 -- were.
-pub record HasSideBeside (files : Files) (side : Side) (bytes : List ℕ) (image : Files) : Type 0 where
-  pub is : image ≡ put files (side_name side) bytes
+pub record HasCacheFileBeside (files : Files) (side : CacheFile) (bytes : List ℕ) (image : Files) : Type 0 where
+  pub is : image ≡ put files (cache_file_name side) bytes
   pub repository : IsRepository files → IsRepository image
   pub shows : (runs : List Run) → Shows files runs → Shows image runs
 
 -- a stop at each moment leaves what one at the first might have left, or the files as read at the first moment with this
 -- one beside them
-abbrev pub PassesSide : Side → List ℕ → Folder → Folder → Type 0
-PassesSide side bytes s t = Passes (λ image. IsImage s.disk image ⊎ HasSideBeside s.disk.published side bytes image) s t
+abbrev pub PassesCacheFile : CacheFile → List ℕ → Folder → Folder → Type 0
+PassesCacheFile side bytes s t = Passes (λ image. IsImage s.disk image ⊎ HasCacheFileBeside s.disk.published side bytes image) s t
 
 -- the file is on the disk for good, and each later stop leaves it
-pub record KeepsSide (side : Side) (bytes : List ℕ) (s t : Folder) : Type 0 where
-  pub disk : t.disk ≡ at_rest (put s.disk.published (side_name side) bytes)
-  pub lasts : LeavesOnly (HasSideBeside s.disk.published side bytes) t.disk
+pub record KeepsCacheFile (side : CacheFile) (bytes : List ℕ) (s t : Folder) : Type 0 where
+  pub disk : t.disk ≡ at_rest (put s.disk.published (cache_file_name side) bytes)
+  pub lasts : LeavesOnly (HasCacheFileBeside s.disk.published side bytes) t.disk
 
 -- the file was not put: this call failed, or the store was closed and nothing was done
-abbrev pub PutFails : Side → List ℕ → StoreFault → Folder → Folder → Type 0
-PutFails side bytes (Shelf call) s t = KeepFails (side_name side) bytes call s t
+abbrev pub PutFails : CacheFile → List ℕ → StoreFault → Folder → Folder → Type 0
+PutFails side bytes (Shelf call) s t = KeepFails (cache_file_name side) bytes call s t
 PutFails side bytes (Closed call) s t = Stays s t
 
 -- one of the two calls that read a file
@@ -66,7 +66,7 @@ abbrev pub IsReading : ShelfCall → Type 0
 IsReading call = (call ≡ Length) ⊎ (call ≡ ReadAt)
 
 -- a call of a folder that is lent failed, or memory was wanting: no store was closed
-abbrev pub OfLentFolder : SideFault → Type 0
+abbrev pub OfLentFolder : CacheFileFault → Type 0
 OfLentFolder (Store (Shelf call)) = ⊤
 OfLentFolder (Store (Closed call)) = ⊥
 OfLentFolder NoMemory = ⊤
@@ -77,36 +77,36 @@ FileFails (file_fault.Shelf call) = IsReading call
 FileFails file_fault.NoMemory = ⊤
 
 -- the same of the file of a cache
-abbrev pub SideFails : SideFault → Type 0
-SideFails (Store (Shelf call)) = IsReading call
-SideFails (Store (Closed call)) = ⊥
-SideFails NoMemory = ⊤
+abbrev pub CacheFileFails : CacheFileFault → Type 0
+CacheFileFails (Store (Shelf call)) = IsReading call
+CacheFileFails (Store (Closed call)) = ⊥
+CacheFileFails NoMemory = ⊤
 
 -- the same of a store, which may have been closed
-abbrev pub TellsOfReading : SideFault → Type 0
+abbrev pub TellsOfReading : CacheFileFault → Type 0
 TellsOfReading (Store (Shelf call)) = IsReading call
 TellsOfReading (Store (Closed call)) = ⊤
 TellsOfReading NoMemory = ⊤
 
 -- whether a call of the folder failed
-abbrev pub side_failed : {T : Type 0} → Result T SideFault → Bool
-side_failed (Ok found) = false
-side_failed (Err (Store (Shelf call))) = true
-side_failed (Err (Store (Closed call))) = false
-side_failed (Err NoMemory) = false
+abbrev pub cache_file_failed : {T : Type 0} → Result T CacheFileFault → Bool
+cache_file_failed (Ok found) = false
+cache_file_failed (Err (Store (Shelf call))) = true
+cache_file_failed (Err (Store (Closed call))) = false
+cache_file_failed (Err NoMemory) = false
 
 -- the call that failed after which the store is closed: this one's, or the one before it
-abbrev pub fault_after_side : {T : Type 0} → Option ShelfCall → Result T SideFault → Option ShelfCall
-fault_after_side before (Ok found) = before
-fault_after_side before (Err (Store (Shelf call))) = Some call
-fault_after_side before (Err (Store (Closed call))) = before
-fault_after_side before (Err NoMemory) = before
+abbrev pub fault_after_cache_file : {T : Type 0} → Option ShelfCall → Result T CacheFileFault → Option ShelfCall
+fault_after_cache_file before (Ok found) = before
+fault_after_cache_file before (Err (Store (Shelf call))) = Some call
+fault_after_cache_file before (Err (Store (Closed call))) = before
+fault_after_cache_file before (Err NoMemory) = before
 
 -- `Closed` comes exactly after a fault, with its call, and each fault is kept
-pub record SideCloses {T : Type 0} (before after : Option ShelfCall) (result : Result T SideFault) : Type 0 where
+pub record CacheFileCloses {T : Type 0} (before after : Option ShelfCall) (result : Result T CacheFileFault) : Type 0 where
   pub closed : (call : ShelfCall) → (result ≡ Err (Store (Closed call))) ↔ (before ≡ Some call)
-  pub kept : after ≡ fault_after_side before result
+  pub kept : after ≡ fault_after_cache_file before result
 
 -- the store was only read, or closed by a fault
-abbrev pub SideReads : {T : Type 0} → StoreSeen → StoreSeen → Result T SideFault → Type 0
-SideReads before after result = Reads before after (λ old new. SideCloses old new result) (side_failed result)
+abbrev pub CacheFileReads : {T : Type 0} → StoreSeen → StoreSeen → Result T CacheFileFault → Type 0
+CacheFileReads before after result = Reads before after (λ old new. CacheFileCloses old new result) (cache_file_failed result)

@@ -8,11 +8,11 @@ ghost use Rattle.run_shelf.specs.Faults.{open_failed};
 ghost use Rattle.run_shelf.specs.Looking.{seen_base, ReadsBase, BaseFails};
 ghost use Rattle.run_shelf.specs.Outcomes.{TicksUpTo};
 ghost use Rattle.run_shelf.specs.Repository.{HasBasedFormat, IsRepository};
-ghost use Rattle.run_shelf.specs.Sides.{OfLentFolder, side_failed};
+ghost use Rattle.run_shelf.specs.Sides.{OfLentFolder, cache_file_failed};
 
 use crate::file::read_file;
 use crate::names::{Format, format_again};
-use crate::{FileFault, IdFile, MOST_RUNS, OpenFault, SideFault, StoreFault, read_id_file};
+use crate::{CacheFileFault, FileFault, IdFile, MOST_RUNS, OpenFault, StoreFault, read_id_file};
 use edge_io::Shelf;
 use std::alloc::Global;
 use sub_number::{IdList, NoMemory};
@@ -63,20 +63,20 @@ pub fn read_base_set<H: Shelf>(alloc: Global, shelf: &mut H) -> Result<Base, Ope
 ///
 /// `Store` comes only with the call of the folder that failed. `NoMemory` comes for want of memory, or where a folder that
 /// tells nothing has other bytes than those of a repository.
-pub fn read_base<H: Shelf>(alloc: Global, shelf: &mut H) -> Result<Base, SideFault>
+pub fn read_base<H: Shelf>(alloc: Global, shelf: &mut H) -> Result<Base, CacheFileFault>
     requires { IfSome (H.seen shelf.old).told (λ s. IsRepository s.disk.published) }
     ensures found { IfOk result (λ base. IfSome (H.seen shelf.old).told (ReadsBase base)) }
     ensures failed { IfErr result OfLentFolder }
     ensures same { Goes (H.seen shelf.old).told (H.seen shelf.new).told Stays }
     ensures time { TicksUpTo 3 (H.clock shelf.old) (H.clock shelf.new) }
-    ensures cause { RisesExactlyIf (H.seen shelf.old).faults (H.seen shelf.new).faults (side_failed result) }
+    ensures cause { RisesExactlyIf (H.seen shelf.old).faults (H.seen shelf.new).faults (cache_file_failed result) }
 {
     match format_again(shelf) {
         Ok(Format::First) => Ok(no_base(alloc)),
         Ok(Format::Second) => match read_base_set(alloc, shelf) {
             Ok(base) => Ok(base),
-            Err(OpenFault::Shelf(call)) => Err(SideFault::Store(StoreFault::Shelf(call))),
-            Err(_) => Err(SideFault::NoMemory),
+            Err(OpenFault::Shelf(call)) => Err(CacheFileFault::Store(StoreFault::Shelf(call))),
+            Err(_) => Err(CacheFileFault::NoMemory),
         },
         Err(fault) => Err(fault),
     }

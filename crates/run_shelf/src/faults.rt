@@ -105,7 +105,7 @@ impl From<AllocError> for FileFault {
 
 /// Why a file of a cache was not read.
 #[derive(Clone, Copy, Debug, PartialEq, Eq, Error)]
-pub enum SideFault {
+pub enum CacheFileFault {
     /// A call of the folder failed, or had failed before.
     #[error("{0}")]
     Store(StoreFault),

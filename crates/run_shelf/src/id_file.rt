@@ -4,7 +4,8 @@ ghost use Rattle.std.specs.Prelude.{◌≡◌, ◌++◌, ◌∷◌, [], ◌↔�
 ghost use Rattle.std.specs.Cmp.Lexicographic.{slice_cmp};
 ghost use Rattle.std.specs.List.Sorted.{IsStrictlySortedBy};
 ghost use Rattle.std.specs.Ordering.{nat_cmp};
-ghost use Rattle.run_shelf.specs.IdFiles.{line, IsIdFile, AreIds, AreEntries, Lacks, IsCut, SpellsSmall, BeginsWithHeading};
+ghost use Rattle.sub_number.specs.Lines.{with_newline};
+ghost use Rattle.run_shelf.specs.IdFiles.{IsIdFile, AreIds, AreEntries, Lacks, IsCutAtMark, SpellsDecimal, BeginsWithHeading};
 
 use itoa::Buffer;
 use memchr::memchr;
@@ -22,8 +23,8 @@ pub struct IdFile {
 /// What the bytes hold, where they are a file of ids of this title, which is given with its newline. `None` comes exactly
 /// where they are none. Each byte is looked at a few times.
 pub fn read_id_file(alloc: Global, title: &[u8], bytes: &[u8]) -> Result<Option<IdFile>, NoMemory>
-    ensures some { (name : List ℕ) → title.now ≡ line name → IfOk result (λ found. IfSome found (λ file. IsIdFile name bytes.now file.number file.ids)) }
-    ensures none { (name : List ℕ) → title.now ≡ line name → IfOk result (λ found. IfNone found ((number : ℕ) (ids : List (List ℕ)) → IsIdFile name bytes.now number ids → ⊥)) }
+    ensures some { (name : List ℕ) → title.now ≡ with_newline name → IfOk result (λ found. IfSome found (λ file. IsIdFile name bytes.now file.number file.ids)) }
+    ensures none { (name : List ℕ) → title.now ≡ with_newline name → IfOk result (λ found. IfNone found ((number : ℕ) (ids : List (List ℕ)) → IsIdFile name bytes.now number ids → ⊥)) }
 {
     let Some((number, rest)) = read_heading(title, bytes) else {
         return Ok(None);
@@ -35,8 +36,8 @@ pub fn read_id_file(alloc: Global, title: &[u8], bytes: &[u8]) -> Result<Option<
 }
 
 // The bytes before the first of this mark, and those behind it. `None` comes exactly where there is no such mark.
-fn cut(mark: u8, bytes: &[u8]) -> Option<(&[u8], &[u8])>
-    ensures some { IfSome result (λ parts. IsCut mark bytes.now parts.0.now parts.1.now) }
+fn split_at_mark(mark: u8, bytes: &[u8]) -> Option<(&[u8], &[u8])>
+    ensures some { IfSome result (λ parts. IsCutAtMark mark bytes.now parts.0.now parts.1.now) }
     ensures none { IfNone result (Lacks mark bytes.now) }
 {
     let place = memchr(mark, bytes)?;
@@ -45,8 +46,8 @@ fn cut(mark: u8, bytes: &[u8]) -> Option<(&[u8], &[u8])>
 
 // The number below 2^64 that these digits spell, without leading zeros. `None` comes exactly where they spell none.
 fn read_decimal(digits: &[u8]) -> Option<u64>
-    ensures some { IfSome result (SpellsSmall digits.now) }
-    ensures none { IfNone result ((number : ℕ) → SpellsSmall digits.now number → ⊥) }
+    ensures some { IfSome result (SpellsDecimal digits.now) }
+    ensures none { IfNone result ((number : ℕ) → SpellsDecimal digits.now number → ⊥) }
 {
     let Ok(text) = str::from_utf8(digits) else {
         return None;
@@ -69,7 +70,7 @@ fn read_heading<'b>(title: &[u8], bytes: &'b [u8]) -> Option<(u64, &'b [u8])>
     ensures none { IfNone result ((number : ℕ) (rest : List ℕ) → BeginsWithHeading title.now bytes.now number rest → ⊥) }
 {
     let rest = bytes.strip_prefix(title)?;
-    let (digits, behind) = cut(b'\n', rest)?;
+    let (digits, behind) = split_at_mark(b'\n', rest)?;
     Some((read_decimal(digits)?, behind))
 }
 
@@ -80,7 +81,7 @@ fn read_entries(alloc: Global, bytes: &[u8]) -> Result<Option<IdList>, NoMemory>
 {
     let mut ids = IdList::new(alloc);
     let mut rest = bytes;
-    while let Some((id, behind)) = cut(0, rest) {
+    while let Some((id, behind)) = split_at_mark(0, rest) {
         if !push_id(alloc, &mut ids, id)? {
             return Ok(None);
         }

@@ -6,8 +6,8 @@ ghost use Rattle.run_shelf.specs.Adoption.{IsOld, SameButNew};
 ghost use Rattle.run_shelf.specs.Bases.{base_name};
 ghost use Rattle.run_shelf.specs.Images.{HasRunBeside};
 ghost use Rattle.run_shelf.specs.Repository.{Run, Shows, HasKinds, IsRepository, full_name, partial_name, most_runs};
-ghost use Rattle.run_shelf.specs.Sides.{side_name, SameButSides};
-ghost use Rattle.run_shelf.specs.declared.side.Side.{Side as ASide};
+ghost use Rattle.run_shelf.specs.Sides.{cache_file_name, SameButCaches};
+ghost use Rattle.run_shelf.specs.declared.cache_file.CacheFile.{CacheFile as ASide};
 
 /// A repository shows one list of runs, and the kinds that a look at it finds are theirs, in the same order.
 pub fn repositories_show_runs()
@@ -29,11 +29,11 @@ pub fn old_folders_stay_old()
 
 /// Files that differ in the files of the caches alone show the same runs, and are a repository where they were one. So it
 /// is with one such file put, with none, and with several, one after another.
-pub fn sides_keep_the_runs()
-    ensures runs { (files image : Files) (runs : List Run) → SameButSides files image → Shows files runs → Shows image runs }
-    ensures repository { (files image : Files) → SameButSides files image → IsRepository files → IsRepository image }
-    ensures kinds { (files image : Files) (kinds : List Bool) → SameButSides files image → HasKinds files kinds → HasKinds image kinds }
-    ensures put { (files : Files) (side : ASide) (bytes : List ℕ) → SameButSides files (put files (side_name side) bytes) }
-    ensures same { (files : Files) → SameButSides files files }
-    ensures join { (files middle image : Files) → SameButSides files middle → SameButSides middle image → SameButSides files image }
+pub fn caches_keep_the_runs()
+    ensures runs { (files image : Files) (runs : List Run) → SameButCaches files image → Shows files runs → Shows image runs }
+    ensures repository { (files image : Files) → SameButCaches files image → IsRepository files → IsRepository image }
+    ensures kinds { (files image : Files) (kinds : List Bool) → SameButCaches files image → HasKinds files kinds → HasKinds image kinds }
+    ensures put { (files : Files) (side : ASide) (bytes : List ℕ) → SameButCaches files (put files (cache_file_name side) bytes) }
+    ensures same { (files : Files) → SameButCaches files files }
+    ensures join { (files middle image : Files) → SameButCaches files middle → SameButCaches middle image → SameButCaches files image }
 {}

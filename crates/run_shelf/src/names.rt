@@ -12,11 +12,11 @@ ghost use Rattle.run_shelf.specs.Names.{SpellsRun, SpellsNoRun, SpellsRunNumber,
 ghost use Rattle.run_shelf.specs.Outcomes.{Surveys, OpenFails, TicksUpTo};
 ghost use Rattle.run_shelf.specs.Repository.{most_runs, IsRepository, format_bytes};
 ghost use Rattle.run_shelf.specs.Repository.{run_name as name_of};
-ghost use Rattle.run_shelf.specs.Sides.{OfLentFolder, side_failed};
+ghost use Rattle.run_shelf.specs.Sides.{OfLentFolder, cache_file_failed};
 
 use crate::base_set::read_base_set;
 use crate::file::{BASED_FORMAT_BYTES, FORMAT_BYTES, FORMAT_NAME};
-use crate::{Found, MOST_RUNS, OpenFault, ShelfCall, SideFault, StoreFault};
+use crate::{CacheFileFault, Found, MOST_RUNS, OpenFault, ShelfCall, StoreFault};
 use arrayvec::ArrayString;
 use edge_io::{NamesFault, Shelf};
 use itoa::Buffer;
@@ -268,21 +268,21 @@ pub(crate) fn read_format<H: Shelf>(shelf: &mut H) -> Result<Format, OpenFault>
 
 /// The format of a repository, by one call of the folder. `NoMemory` comes only where a folder that tells nothing has other
 /// bytes than those of a repository.
-pub(crate) fn format_again<H: Shelf>(shelf: &mut H) -> Result<Format, SideFault>
+pub(crate) fn format_again<H: Shelf>(shelf: &mut H) -> Result<Format, CacheFileFault>
     requires { IfSome (H.seen shelf.old).told (λ s. IsRepository s.disk.published) }
     ensures right { IfOk result (λ format. IfSome (H.seen shelf.old).told (HasThisFormat format)) }
     ensures failed { IfErr result OfLentFolder }
     ensures same { Goes (H.seen shelf.old).told (H.seen shelf.new).told Stays }
     ensures time { TicksUpTo 1 (H.clock shelf.old) (H.clock shelf.new) }
-    ensures cause { RisesExactlyIf (H.seen shelf.old).faults (H.seen shelf.new).faults (side_failed result) }
+    ensures cause { RisesExactlyIf (H.seen shelf.old).faults (H.seen shelf.new).faults (cache_file_failed result) }
 {
     let mut buf = [0u8; FORMAT_SIZE];
     let Ok(count) = shelf.read_at(FORMAT_NAME, 0, &mut buf) else {
-        return Err(SideFault::Store(StoreFault::Shelf(ShelfCall::ReadAt)));
+        return Err(CacheFileFault::Store(StoreFault::Shelf(ShelfCall::ReadAt)));
     };
     match format_of(FORMAT_SIZE as u64, &buf[..count]) {
         Some(format) => Ok(format),
-        None => Err(SideFault::NoMemory),
+        None => Err(CacheFileFault::NoMemory),
     }
 }
 

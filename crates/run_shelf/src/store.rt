@@ -11,15 +11,15 @@ ghost use Rattle.run_shelf.specs.Images.{MakesRepository, PassesFormat, PassesOl
 ghost use Rattle.run_shelf.specs.Looking.{ReadsBase};
 ghost use Rattle.run_shelf.specs.Openings.{HandsBack, IsNotOpened};
 ghost use Rattle.run_shelf.specs.Outcomes.{InitFails, Surveys, IsRunLength, IsRunPart, TicksAtMost, TicksUpTo};
-ghost use Rattle.run_shelf.specs.Sides.{HoldsSide, KeepsSide, PassesSide, PutFails, TellsOfReading, SideReads};
+ghost use Rattle.run_shelf.specs.Sides.{HoldsCacheFile, KeepsCacheFile, PassesCacheFile, PutFails, TellsOfReading, CacheFileReads};
 ghost use Rattle.run_shelf.specs.declared.faults.ShelfCall.TheVariants.{Length, ReadAt};
 ghost use Rattle.run_shelf.specs.declared.faults.StoreFault.TheVariants.{Shelf as ShelfFailed};
 ghost use Rattle.run_shelf.specs.Stores.{store_kinds, store_fault, FitsUnlessBroken, seen_store, store_failed, StoreReads, Closes, TellsOf, HasOpenCause, HasStartCause, StartsFrom, StartFails, has_start_failed, fault_after_start, recorder_kinds, recorder_fault, RecordsUnlessBroken};
 
 use crate::{
-    Base, Found, InitFault, MOST_RUNS, OpenFault, Recorder, Recording, ShelfCall, Side, SideFault,
-    StartFault, StoreFault, begin_run, make_repository, read_base, read_run, read_side, run_length,
-    survey, write_side,
+    Base, CacheFile, CacheFileFault, Found, InitFault, MOST_RUNS, OpenFault, Recorder, Recording,
+    ShelfCall, StartFault, StoreFault, begin_run, make_repository, read_base, read_cache_file,
+    read_run, run_length, survey, write_cache_file,
 };
 use edge_io::Shelf;
 use std::alloc::Global;
@@ -137,25 +137,29 @@ impl<'h, H: Shelf> Store<'h, H> {
         }
     }
 
-    /// The bytes of the file of this cache, as `read_side`.
+    /// The bytes of the file of this cache, as `read_cache_file`.
     ///
     /// `Store` comes only with the call of the folder that failed, and with `Closed` exactly where one had failed
     /// before, which comes first.
-    pub fn side(&mut self, alloc: Global, side: Side) -> Result<Option<Bytes>, SideFault>
+    pub fn cache_file(
+        &mut self,
+        alloc: Global,
+        side: CacheFile,
+    ) -> Result<Option<Bytes>, CacheFileFault>
         requires fits { FitsUnlessBroken (store_kinds self.old) (store_fault self.old) (H.seen self.old.shelf.now).told }
         ensures same_reference { self.new.shelf.ghost_name ≡ self.old.shelf.ghost_name }
-        ensures found { IfOk result (λ found. IfSome (H.seen self.old.shelf.now).told (HoldsSide side found)) }
+        ensures found { IfOk result (λ found. IfSome (H.seen self.old.shelf.now).told (HoldsCacheFile side found)) }
         ensures failed { IfErr result TellsOfReading }
-        ensures reads { SideReads (seen_store self.old (H.seen self.old.shelf.now)) (seen_store self.new (H.seen self.new.shelf.now)) result }
+        ensures reads { CacheFileReads (seen_store self.old (H.seen self.old.shelf.now)) (seen_store self.new (H.seen self.new.shelf.now)) result }
         ensures time { TicksUpTo 2 (H.clock self.old.shelf.now) (H.clock self.new.shelf.now) }
     {
         if let Some(call) = self.fault {
-            return Err(SideFault::Store(StoreFault::Closed(call)));
+            return Err(CacheFileFault::Store(StoreFault::Closed(call)));
         }
-        match read_side(alloc, self.shelf, side) {
+        match read_cache_file(alloc, self.shelf, side) {
             Ok(found) => Ok(found),
-            Err(SideFault::Store(StoreFault::Shelf(call))) => {
-                Err(SideFault::Store(self.close(call)))
+            Err(CacheFileFault::Store(StoreFault::Shelf(call))) => {
+                Err(CacheFileFault::Store(self.close(call)))
             }
             Err(fault) => Err(fault),
         }
@@ -165,33 +169,33 @@ impl<'h, H: Shelf> Store<'h, H> {
     ///
     /// `Store` comes only with the call of the folder that failed, and with `Closed` exactly where one had failed before,
     /// which comes first.
-    pub fn base(&mut self, alloc: Global) -> Result<Base, SideFault>
+    pub fn base(&mut self, alloc: Global) -> Result<Base, CacheFileFault>
         requires fits { FitsUnlessBroken (store_kinds self.old) (store_fault self.old) (H.seen self.old.shelf.now).told }
         ensures same_reference { self.new.shelf.ghost_name ≡ self.old.shelf.ghost_name }
         ensures found { IfOk result (λ base. IfSome (H.seen self.old.shelf.now).told (ReadsBase base)) }
-        ensures reads { SideReads (seen_store self.old (H.seen self.old.shelf.now)) (seen_store self.new (H.seen self.new.shelf.now)) result }
+        ensures reads { CacheFileReads (seen_store self.old (H.seen self.old.shelf.now)) (seen_store self.new (H.seen self.new.shelf.now)) result }
         ensures time { TicksUpTo 3 (H.clock self.old.shelf.now) (H.clock self.new.shelf.now) }
     {
         if let Some(call) = self.fault {
-            return Err(SideFault::Store(StoreFault::Closed(call)));
+            return Err(CacheFileFault::Store(StoreFault::Closed(call)));
         }
         match read_base(alloc, self.shelf) {
             Ok(base) => Ok(base),
-            Err(SideFault::Store(StoreFault::Shelf(call))) => {
-                Err(SideFault::Store(self.close(call)))
+            Err(CacheFileFault::Store(StoreFault::Shelf(call))) => {
+                Err(CacheFileFault::Store(self.close(call)))
             }
             Err(fault) => Err(fault),
         }
     }
 
-    /// Puts the file of this cache beside the runs, which stay as they are, as `write_side`. It takes no memory. After a
+    /// Puts the file of this cache beside the runs, which stay as they are, as `write_cache_file`. It takes no memory. After a
     /// fault the store is closed, and where one had failed before, nothing is done.
-    pub fn put_side(&mut self, side: Side, bytes: &[u8]) -> Result<(), StoreFault>
+    pub fn put_cache_file(&mut self, side: CacheFile, bytes: &[u8]) -> Result<(), StoreFault>
         requires fits { FitsUnlessBroken (store_kinds self.old) (store_fault self.old) (H.seen self.old.shelf.now).told }
         ensures same_reference { self.new.shelf.ghost_name ≡ self.old.shelf.ghost_name }
-        ensures kept { OnOk result (Goes (H.seen self.old.shelf.now).told (H.seen self.new.shelf.now).told (KeepsSide side bytes.now)) }
+        ensures kept { OnOk result (Goes (H.seen self.old.shelf.now).told (H.seen self.new.shelf.now).told (KeepsCacheFile side bytes.now)) }
         ensures failed { IfErr result (λ fault. Goes (H.seen self.old.shelf.now).told (H.seen self.new.shelf.now).told (PutFails side bytes.now fault)) }
-        ensures any_moment { Goes (H.seen self.old.shelf.now).told (H.seen self.new.shelf.now).told (PassesSide side bytes.now) }
+        ensures any_moment { Goes (H.seen self.old.shelf.now).told (H.seen self.new.shelf.now).told (PassesCacheFile side bytes.now) }
         ensures closes { Closes (store_fault self.old) (store_fault self.new) result }
         ensures kinds { store_kinds self.new ≡ store_kinds self.old }
         ensures fits { FitsUnlessBroken (store_kinds self.new) (store_fault self.new) (H.seen self.new.shelf.now).told }
@@ -201,7 +205,7 @@ impl<'h, H: Shelf> Store<'h, H> {
         if let Some(call) = self.fault {
             return Err(StoreFault::Closed(call));
         }
-        match write_side(self.shelf, side, bytes) {
+        match write_cache_file(self.shelf, side, bytes) {
             Ok(()) => Ok(()),
             Err(call) => Err(self.close(call)),
         }

@@ -292,7 +292,7 @@ fn is_run_in<R: Threads + Wait + Sync + AllocGlobal>(
     jobs: &[[&[u8]; 3]],
 ) -> Result<bool, Fail> {
     let mut project = project_of(rt.alloc(), DISCOVERED, &TWO_EMPTY, &[], &[])?;
-    project.site.stand_in(Text::new(rt.alloc(), folder)?);
+    project.site.place_in(Text::new(rt.alloc(), folder)?);
     let mut shelf = repository(rt.alloc(), &[])?;
     is_run(rt, &mut shelf, &mut project, run, jobs)
 }

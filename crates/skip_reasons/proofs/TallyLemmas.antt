@@ -5,10 +5,10 @@ use Rattle.std.specs.List.Sorted.{IsSortedBy}
 use Rattle.std.proofs.lemmas.Cmp.{on_total, then_total, back_total, nat_cmp_total}
 use Rattle.std.proofs.lemmas.List.{length-map, get_or-map}
 use Rattle.outcome_fold.proofs.OrderLemmas.{texts_total}
-use Rattle.skip_reasons.specs.Skips.{Tally, more_of, one_more, frequency_cmp}
+use Rattle.skip_reasons.specs.Skips.{Tally, more_of, tallies_with, frequency_cmp}
 
 -- of the tallies only the last one changes
-pub one_more_last : (front : List Tally) (last : Tally) (reason : List ℕ) → one_more (front ++ last ∷ []) reason ≡ front ++ more_of last reason
+pub one_more_last : (front : List Tally) (last : Tally) (reason : List ℕ) → tallies_with (front ++ last ∷ []) reason ≡ front ++ more_of last reason
 one_more_last [] last reason = refl
 one_more_last (t ∷ []) last reason = refl
 one_more_last (t ∷ u ∷ front) last reason = ap (λ ts. t ∷ ts) (one_more_last (u ∷ front) last reason)

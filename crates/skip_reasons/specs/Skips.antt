@@ -32,14 +32,14 @@ abbrev pub more_of : Tally → List ℕ → List Tally
 more_of last reason = if bytes_eq last.reason reason then tally last.reason (last.tests + 1) ∷ [] else last ∷ once reason ∷ []
 
 -- the tallies with a test more of this reason, which is that of the last tally, or of none
-abbrev pub one_more : List Tally → List ℕ → List Tally
-one_more [] reason = once reason ∷ []
-one_more (last ∷ []) reason = more_of last reason
-one_more (first ∷ next ∷ tallies) reason = first ∷ one_more (next ∷ tallies) reason
+abbrev pub tallies_with : List Tally → List ℕ → List Tally
+tallies_with [] reason = once reason ∷ []
+tallies_with (last ∷ []) reason = more_of last reason
+tallies_with (first ∷ next ∷ tallies) reason = first ∷ tallies_with (next ∷ tallies) reason
 
 -- the tallies of reasons in which equal ones stand side by side
 abbrev pub tallies_of : List (List ℕ) → List Tally
-tallies_of reasons = fold one_more [] reasons
+tallies_of reasons = fold tallies_with [] reasons
 
 -- the most frequent first, of equal ones by the reasons' bytes
 abbrev pub frequency_cmp : Tally → Tally → Ordering

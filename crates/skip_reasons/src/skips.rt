@@ -66,7 +66,7 @@ fn add_to<'a>(
 
 // One test more of this reason, which is that of the last tally, or of none.
 fn add<'a>(tallies: &mut Vec<Tally<'a>>, reason: &'a [u8]) -> Result<(), NoMemory>
-    ensures { OnOk result (map (λ t. spec.tally t.reason.now t.tests) tallies.new.items ≡ spec.one_more (map (λ t. spec.tally t.reason.now t.tests) tallies.old.items) reason.now) }
+    ensures { OnOk result (map (λ t. spec.tally t.reason.now t.tests) tallies.new.items ≡ spec.tallies_with (map (λ t. spec.tally t.reason.now t.tests) tallies.old.items) reason.now) }
 {
     match tallies.pop() {
         Some(last) => add_to(tallies, last, reason),

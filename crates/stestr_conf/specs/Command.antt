@@ -4,8 +4,8 @@ use Rattle.std.specs.Option.{unwrap_or}
 use Rattle.testr_conf.specs.Settings.{Settings, or_given}
 use Rattle.testr_conf.specs.Stestr.{command_settings}
 use Rattle.testr_conf.specs.declared.stestr.StestrValues.{StestrValues}
-use Rattle.stestr_conf.specs.declared.command.SettleFault.{SettleFault}
-use Rattle.stestr_conf.specs.declared.command.SettleFault.TheVariants.{NoTestPath}
+use Rattle.stestr_conf.specs.declared.settled_values.SettleFault.{SettleFault}
+use Rattle.stestr_conf.specs.declared.settled_values.SettleFault.TheVariants.{NoTestPath}
 
 -- the pattern that groups the tests of each class
 abbrev pub class_regex : List ℕ
@@ -32,6 +32,6 @@ settled_at top_dir None group_regex = Err NoTestPath
 settled_at top_dir (Some test_path) group_regex = Ok (stestr_settings (unwrap_or top_dir (codes "./")) test_path group_regex)
 
 -- the settings of the values, in place of which these stand, where they are there and not empty
-abbrev pub settled : (test_path top_dir : Option (List ℕ)) → StestrValues → Result Settings SettleFault
-settled test_path top_dir values =
+abbrev pub settled_values : (test_path top_dir : Option (List ℕ)) → StestrValues → Result Settings SettleFault
+settled_values test_path top_dir values =
     settled_at (or_given top_dir values.top_dir) (or_given test_path values.test_path) (grouping values.parallel_class values.group_regex)

@@ -2,11 +2,11 @@
 use Rattle.std.specs.Prelude.{ℕ, Bool, true, false, ◌&&◌, Option, None, Some, Result, Ok, Err, List, codes, option_and_then, if◌then◌else◌}
 use Rattle.std.specs.Str.{is_utf8}
 use Rattle.command_words.specs.Items.{is_text}
-use Rattle.testr_conf.specs.Values.{is_path}
 use Rattle.testr_conf.specs.Settings.{unless_empty}
 use Rattle.testr_conf.specs.declared.stestr.StestrValues.{StestrValues}
 use Rattle.toml.specs.Data.{Data, Members, get, get_member, as_str, as_bool, as_table}
 use Rattle.toml.specs.Parse.{parse_document}
+use Rattle.sub_number.specs.Quotes.{is_path}
 use Rattle.stestr_conf.specs.declared.table.TableFault.{TableFault}
 use Rattle.stestr_conf.specs.declared.table.TableFault.TheVariants.{NotToml, NotTable, BadValue}
 use Rattle.stestr_conf.specs.declared.table.TableKey.{TableKey}
@@ -36,9 +36,9 @@ string_by key None = Err (BadValue key)
 string_by key (Some value) = if is_fit key value then Ok (unless_empty (Some value)) else Err (BadValue key)
 
 -- the value of a key of strings, where it is set
-abbrev pub text_by : TableKey → Option Data → Result (Option (List ℕ)) TableFault
-text_by key None = Ok None
-text_by key (Some value) = string_by key (as_str value)
+abbrev pub string_value_by : TableKey → Option Data → Result (Option (List ℕ)) TableFault
+string_value_by key None = Ok None
+string_value_by key (Some value) = string_by key (as_str value)
 
 -- whether tests of a class stay together, where the value is true or false
 abbrev pub truth_by : Option Bool → Result Bool TableFault
@@ -56,22 +56,22 @@ and_next (Ok value) next = next value
 and_next (Err fault) next = Err fault
 
 -- the value that the members give to this key
-abbrev pub text_at : TableKey → Members → Result (Option (List ℕ)) TableFault
-text_at key members = text_by key (get_member (table_key key) members)
+abbrev pub string_value_at : TableKey → Members → Result (Option (List ℕ)) TableFault
+string_value_at key members = string_value_by key (get_member (table_key key) members)
 
 -- the values that the members give to the keys
-abbrev pub values_in : Members → Result StestrValues TableFault
-values_in members =
-    and_next (text_at TestPath members) (λ test_path.
-    and_next (text_at TopDir members) (λ top_dir.
-    and_next (text_at GroupRegex members) (λ group_regex.
+abbrev pub member_values : Members → Result StestrValues TableFault
+member_values members =
+    and_next (string_value_at TestPath members) (λ test_path.
+    and_next (string_value_at TopDir members) (λ top_dir.
+    and_next (string_value_at GroupRegex members) (λ group_regex.
     and_next (class_by (get_member (table_key ParallelClass) members)) (λ parallel_class.
     Ok (record { test_path = test_path; top_dir = top_dir; group_regex = group_regex; parallel_class = parallel_class })))))
 
 -- what a table says, where it is one
 abbrev pub table_by : Option Members → Result (Option StestrValues) TableFault
 table_by None = Err NotTable
-table_by (Some members) = and_next (values_in members) (λ values. Ok (Some values))
+table_by (Some members) = and_next (member_values members) (λ values. Ok (Some values))
 
 -- what is said where the member `stestr` is this; none where there is none
 abbrev pub values_by : Option Data → Result (Option StestrValues) TableFault

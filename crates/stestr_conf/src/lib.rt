@@ -2,14 +2,14 @@
 //!
 //! For want of memory a public call answers `NoMemory`, which comes for nothing else but a command of 2^30 bytes and more.
 //!
-//! - `command`: the command that stestr would start, and its settings.
+//! - `settled_values`: the command that stestr would start, and its settings.
 //! - `table`: the table `tool.stestr`.
 //!
 //! What a `.stestr.conf` says is read by `testr_conf`, which knows lines.
 #![tactic(auto)]
 
-mod command;
+mod settled_values;
 mod table;
 
-pub use command::{SettleFault, settle};
+pub use settled_values::{SettleFault, settings_of_values};
 pub use table::{TableFault, TableKey, read_table};

@@ -5,7 +5,7 @@ ghost use Rattle.std.specs.Option.{option_copied};
 ghost use Rattle.toml.specs.Data.{get, get_member};
 ghost use Rattle.toml.specs.Parse.{parse_document};
 ghost use Rattle.toml.specs.View.{view, table_view};
-ghost use Rattle.stestr_conf.specs.Table.{table_key, takes, string_by, text_by, text_at, truth_by, class_by, values_in, values_by, document_by, table_of};
+ghost use Rattle.stestr_conf.specs.Table.{table_key, takes, string_by, string_value_by, string_value_at, truth_by, class_by, member_values, values_by, document_by, table_of};
 ghost use Rattle.stestr_conf.specs.declared.table.TableKey.TheVariants.{ParallelClass as AParallelClass};
 
 use command_words::text_of;
@@ -166,8 +166,8 @@ fn read_some(alloc: Global, value: &Value) -> Result<Option<StestrValues>, Table
 
 // What the keys of the table say.
 fn read_values(alloc: Global, table: &Table) -> Result<StestrValues, TableFault>
-    ensures values { IfOk result (λ values. values_in (table_view table.now) ≡ Ok values) }
-    ensures refused { IfErr result (λ fault. (values_in (table_view table.now) ≡ Err fault) ⊎ (fault ≡ TableFault.NoMemory)) }
+    ensures values { IfOk result (λ values. member_values (table_view table.now) ≡ Ok values) }
+    ensures refused { IfErr result (λ fault. (member_values (table_view table.now) ≡ Err fault) ⊎ (fault ≡ TableFault.NoMemory)) }
 {
     let test_path = text_at(alloc, table, TableKey::TestPath)?;
     let top_dir = text_at(alloc, table, TableKey::TopDir)?;
@@ -183,8 +183,8 @@ fn read_values(alloc: Global, table: &Table) -> Result<StestrValues, TableFault>
 
 // The value of a key of strings.
 fn text_at(alloc: Global, table: &Table, key: TableKey) -> Result<Option<Text>, TableFault>
-    ensures text { IfOk result (λ text. text_at key (table_view table.now) ≡ Ok text) }
-    ensures refused { IfErr result (λ fault. (text_at key (table_view table.now) ≡ Err fault) ⊎ (fault ≡ TableFault.NoMemory)) }
+    ensures text { IfOk result (λ text. string_value_at key (table_view table.now) ≡ Ok text) }
+    ensures refused { IfErr result (λ fault. (string_value_at key (table_view table.now) ≡ Err fault) ⊎ (fault ≡ TableFault.NoMemory)) }
 {
     member_text(alloc, key, value_at(table, key.name()))
 }
@@ -195,8 +195,8 @@ fn member_text(
     key: TableKey,
     value: Option<&Value>,
 ) -> Result<Option<Text>, TableFault>
-    ensures text { IfOk result (λ text. text_by key (option_map (λ value. view value.now) value.entry) ≡ Ok text) }
-    ensures refused { IfErr result (λ fault. (text_by key (option_map (λ value. view value.now) value.entry) ≡ Err fault) ⊎ (fault ≡ TableFault.NoMemory)) }
+    ensures text { IfOk result (λ text. string_value_by key (option_map (λ value. view value.now) value.entry) ≡ Ok text) }
+    ensures refused { IfErr result (λ fault. (string_value_by key (option_map (λ value. view value.now) value.entry) ≡ Err fault) ⊎ (fault ≡ TableFault.NoMemory)) }
 {
     match value {
         Some(value) => string_text(alloc, key, value.as_str()),

@@ -4,7 +4,7 @@ use crate::tests_run_ledger::{keep_ended, repository};
 use edge_io::{MemShelf, Shelf};
 use packet_codec::Status;
 use run_ledger::{FailingCache, failing, read_failing_cache, write_failing_cache};
-use run_shelf::{Side, Store};
+use run_shelf::{CacheFile, Store};
 use std::alloc::Global;
 use std::test::Fail;
 use sub_number::{IdList, Text};
@@ -93,7 +93,7 @@ pub(crate) fn two_runs(alloc: Global, fails: &[u64]) -> Result<Option<MemShelf>,
 // Whether these ids of one byte each are told where the file of the cache has these bytes.
 fn fails<H: Shelf>(alloc: Global, shelf: &mut H, cache: &[u8], names: &[u8]) -> Result<bool, Fail> {
     let mut store = Store::open(alloc, shelf)?;
-    store.put_side(Side::Failing, cache)?;
+    store.put_cache_file(CacheFile::Failing, cache)?;
     let ids = failing(alloc, &mut store)?;
     Ok(are(ids.list(), names))
 }

@@ -5,14 +5,14 @@ use crate::tests_run_ledger_caches::two_runs;
 use edge_io::Shelf;
 use outcome_fold::Summary;
 use run_ledger::{failing, refresh_behind};
-use run_shelf::{Side, Store, read_side};
+use run_shelf::{CacheFile, Store, read_cache_file};
 use std::alloc::Global;
 use std::test::Fail;
 use trial_events::are;
 
 // Whether the file of the cache has these bytes.
-fn holds<H: Shelf>(alloc: Global, shelf: &mut H, side: Side, bytes: &[u8]) -> bool {
-    match read_side(alloc, shelf, side) {
+fn holds<H: Shelf>(alloc: Global, shelf: &mut H, side: CacheFile, bytes: &[u8]) -> bool {
+    match read_cache_file(alloc, shelf, side) {
         Ok(Some(found)) => found.bytes() == bytes,
         _ => false,
     }
@@ -20,13 +20,17 @@ fn holds<H: Shelf>(alloc: Global, shelf: &mut H, side: Side, bytes: &[u8]) -> bo
 
 // Whether the files hold the caches of both runs.
 fn hold_both<H: Shelf>(alloc: Global, shelf: &mut H) -> bool {
-    holds(alloc, shelf, Side::Failing, b"subunit-failing 1\n2\nb\0c\0")
-        && holds(
-            alloc,
-            shelf,
-            Side::Times,
-            b"subunit-times 1\n2\na\x000\0b\x000\0c\x000\0",
-        )
+    holds(
+        alloc,
+        shelf,
+        CacheFile::Failing,
+        b"subunit-failing 1\n2\nb\0c\0",
+    ) && holds(
+        alloc,
+        shelf,
+        CacheFile::Times,
+        b"subunit-times 1\n2\na\x000\0b\x000\0c\x000\0",
+    )
 }
 
 // Whether both caches were written, with what is kept of the rows of the second run at hand, where there are no caches yet.
@@ -38,8 +42,8 @@ fn refreshes<H: Shelf>(alloc: Global, shelf: &mut H, second: &Summary) -> Result
 // The same, where there are caches of the first run. These are put in ten calls; before that four look at the folder.
 fn refreshes_on<H: Shelf>(alloc: Global, shelf: &mut H, second: &Summary) -> Result<bool, Fail> {
     let mut store = Store::open(alloc, shelf)?;
-    store.put_side(Side::Failing, b"subunit-failing 1\n1\na\0b\0")?;
-    store.put_side(Side::Times, b"subunit-times 1\n1\na\x000\0b\x000\0")?;
+    store.put_cache_file(CacheFile::Failing, b"subunit-failing 1\n1\na\0b\0")?;
+    store.put_cache_file(CacheFile::Times, b"subunit-times 1\n1\na\x000\0b\x000\0")?;
     Ok(store.runs() == 2 && refresh_behind(alloc, &mut store, second).is_ok())
 }
 

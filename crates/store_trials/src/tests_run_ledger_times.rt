@@ -4,7 +4,7 @@ use crate::tests_run_ledger::{keep, repository};
 use edge_io::Shelf;
 use packet_codec::Status;
 use run_ledger::{TimesCache, read_times_cache, refresh, write_times_cache};
-use run_shelf::{Side, Store, read_side};
+use run_shelf::{CacheFile, Store, read_cache_file};
 use std::alloc::Global;
 use std::test::Fail;
 use sub_number::{Text, TimeMap};
@@ -140,14 +140,14 @@ fn cache_of(alloc: Global, entries: &[u8]) -> Result<Vec<u8>, Fail> {
 // Puts it, and writes the caches anew for both runs.
 fn refresh_from<H: Shelf>(alloc: Global, shelf: &mut H, cache: &[u8]) -> Result<(), Fail> {
     let mut store = Store::open(alloc, shelf)?;
-    store.put_side(Side::Times, cache)?;
+    store.put_cache_file(CacheFile::Times, cache)?;
     refresh(alloc, &mut store)?;
     Ok(())
 }
 
 // Whether the cache of both runs has these entries.
 fn has_entries<H: Shelf>(alloc: Global, shelf: &mut H, after: &[u8]) -> bool {
-    match read_side(alloc, shelf, Side::Times) {
+    match read_cache_file(alloc, shelf, CacheFile::Times) {
         Ok(Some(found)) => {
             let left = found
                 .bytes()

@@ -5,8 +5,8 @@ ghost use Rattle.run_shelf.specs.Stores.{store_kinds, store_fault, FitsUnlessBro
 
 use edge_io::{MemShelf, Shelf};
 use run_shelf::{
-    MOST_RUNS, OpenFault, ShelfCall, Side, SideFault, StartFault, Store, StoreFault, add_packet,
-    begin_run, finish_run, make_repository, survey,
+    CacheFile, CacheFileFault, MOST_RUNS, OpenFault, ShelfCall, StartFault, Store, StoreFault,
+    add_packet, begin_run, finish_run, make_repository, survey,
 };
 use std::alloc::Global;
 use std::process::Abort;
@@ -40,20 +40,25 @@ fn record<H: Shelf>(alloc: Global, shelf: &mut H) -> Result<(), Fail> {
 }
 
 // Puts the file, in four calls for the look and five more.
-fn put<H: Shelf>(alloc: Global, shelf: &mut H, side: Side, bytes: &[u8]) -> Result<(), Fail> {
+fn put<H: Shelf>(alloc: Global, shelf: &mut H, side: CacheFile, bytes: &[u8]) -> Result<(), Fail> {
     let mut store = Store::open(alloc, shelf)?;
-    store.put_side(side, bytes)?;
+    store.put_cache_file(side, bytes)?;
     Ok(())
 }
 
 // What the file holds, read in four calls for the look and at most two more.
-fn side_of<H: Shelf>(alloc: Global, shelf: &mut H, side: Side) -> Result<Option<Bytes>, Fail> {
+fn side_of<H: Shelf>(alloc: Global, shelf: &mut H, side: CacheFile) -> Result<Option<Bytes>, Fail> {
     let mut store = Store::open(alloc, shelf)?;
-    Ok(store.side(alloc, side)?)
+    Ok(store.cache_file(alloc, side)?)
 }
 
 // Whether the file is there with exactly these bytes.
-fn holds<H: Shelf>(alloc: Global, shelf: &mut H, side: Side, bytes: &[u8]) -> Result<bool, Fail> {
+fn holds<H: Shelf>(
+    alloc: Global,
+    shelf: &mut H,
+    side: CacheFile,
+    bytes: &[u8],
+) -> Result<bool, Fail> {
     match side_of(alloc, shelf, side)? {
         Some(found) => Ok(found.bytes() == bytes),
         None => Ok(false),
@@ -61,19 +66,23 @@ fn holds<H: Shelf>(alloc: Global, shelf: &mut H, side: Side, bytes: &[u8]) -> Re
 }
 
 // How many bytes the file has that a stop leaves, and how many runs there are.
-fn left<H: Shelf>(alloc: Global, shelf: &mut H, side: Side) -> Result<(Option<u64>, u32), Fail> {
+fn left<H: Shelf>(
+    alloc: Global,
+    shelf: &mut H,
+    side: CacheFile,
+) -> Result<(Option<u64>, u32), Fail> {
     let size = shelf.length(side.name())?;
     let found = survey(alloc, shelf)?;
     Ok((size, found.runs()))
 }
 
-fn has_no<H: Shelf>(alloc: Global, shelf: &mut H, side: Side) -> Result<bool, Fail> {
+fn has_no<H: Shelf>(alloc: Global, shelf: &mut H, side: CacheFile) -> Result<bool, Fail> {
     Ok(side_of(alloc, shelf, side)?.is_none())
 }
 
 // Whether no file of a cache is there.
 fn has_none<H: Shelf>(alloc: Global, shelf: &mut H) -> Result<bool, Fail> {
-    Ok(has_no(alloc, shelf, Side::Failing)? && has_no(alloc, shelf, Side::Times)?)
+    Ok(has_no(alloc, shelf, CacheFile::Failing)? && has_no(alloc, shelf, CacheFile::Times)?)
 }
 
 // Whether the files have these bytes once they are put.
@@ -83,9 +92,12 @@ fn holds_both<H: Shelf>(
     failing: &[u8],
     times: &[u8],
 ) -> Result<bool, Fail> {
-    put(alloc, shelf, Side::Failing, failing)?;
-    put(alloc, shelf, Side::Times, times)?;
-    Ok(holds(alloc, shelf, Side::Failing, failing)? && holds(alloc, shelf, Side::Times, times)?)
+    put(alloc, shelf, CacheFile::Failing, failing)?;
+    put(alloc, shelf, CacheFile::Times, times)?;
+    Ok(
+        holds(alloc, shelf, CacheFile::Failing, failing)?
+            && holds(alloc, shelf, CacheFile::Times, times)?,
+    )
 }
 
 // Whether the second file has these bytes once they are put in place of others, and the first is as it was.
@@ -95,8 +107,11 @@ fn holds_anew<H: Shelf>(
     failing: &[u8],
     times: &[u8],
 ) -> Result<bool, Fail> {
-    put(alloc, shelf, Side::Times, times)?;
-    Ok(holds(alloc, shelf, Side::Failing, failing)? && holds(alloc, shelf, Side::Times, times)?)
+    put(alloc, shelf, CacheFile::Times, times)?;
+    Ok(
+        holds(alloc, shelf, CacheFile::Failing, failing)?
+            && holds(alloc, shelf, CacheFile::Times, times)?,
+    )
 }
 
 fn holds_a_large_one<H: Shelf>(alloc: Global, shelf: &mut H) -> Result<bool, Fail> {
@@ -139,16 +154,16 @@ fn left_after(
     choice: bool,
 ) -> Result<(Option<u64>, u32), Fail> {
     let mut image = shelf.image(moment, choice)?;
-    left(alloc, &mut image, Side::Failing)
+    left(alloc, &mut image, CacheFile::Failing)
 }
 
 fn the_old_or_the_new_is_left<R: AllocGlobal + Abort>(
     rt: &R,
     shelf: &mut MemShelf,
 ) -> Result<(), Fail> {
-    put(rt.alloc(), shelf, Side::Failing, b"old")?;
+    put(rt.alloc(), shelf, CacheFile::Failing, b"old")?;
     // Calls 25 to 28 look, 29 starts, 30 appends, 31 syncs, 32 publishes and 33 settles.
-    put(rt.alloc(), shelf, Side::Failing, b"newer")?;
+    put(rt.alloc(), shelf, CacheFile::Failing, b"newer")?;
     for &(moment, choice, size) in &STOPS {
         assert_eq!(rt;
             left_after(rt.alloc(), shelf, moment, choice)?,
@@ -180,7 +195,7 @@ fn puts_fail(
     call: ShelfCall,
     size: Option<u64>,
 ) -> Result<bool, Fail> {
-    Ok(put_twice(alloc, shelf, call)? && left(alloc, shelf, Side::Times)? == (size, 1))
+    Ok(put_twice(alloc, shelf, call)? && left(alloc, shelf, CacheFile::Times)? == (size, 1))
 }
 
 // The same of a new repository, where it is the call of this number.
@@ -211,15 +226,15 @@ fn put_twice<H: Shelf>(alloc: Global, shelf: &mut H, call: ShelfCall) -> Result<
 fn puts_are_refused<H: Shelf>(store: &mut Store<'_, H>, call: ShelfCall) -> bool
     requires { FitsUnlessBroken (store_kinds store.old) (store_fault store.old) (H.seen store.old.shelf.now).told }
 {
-    let first = store.put_side(Side::Times, b"ab");
-    let second = store.put_side(Side::Failing, b"cde");
+    let first = store.put_cache_file(CacheFile::Times, b"ab");
+    let second = store.put_cache_file(CacheFile::Failing, b"cde");
     first == Err(StoreFault::Shelf(call)) && second == Err(StoreFault::Closed(call))
 }
 
 // Whether a read fails at this call, and one behind it is refused, and the file is there as it was put.
 fn reads_fail(alloc: Global, shelf: &mut MemShelf, call: ShelfCall) -> Result<bool, Fail> {
-    put(alloc, shelf, Side::Failing, b"ab")?;
-    Ok(read_twice(alloc, shelf, call)? && holds(alloc, shelf, Side::Failing, b"ab")?)
+    put(alloc, shelf, CacheFile::Failing, b"ab")?;
+    Ok(read_twice(alloc, shelf, call)? && holds(alloc, shelf, CacheFile::Failing, b"ab")?)
 }
 
 // The same of a new repository, where it is the call of this number.
@@ -245,8 +260,8 @@ fn read_twice<H: Shelf>(alloc: Global, shelf: &mut H, call: ShelfCall) -> Result
 fn reads_are_refused<H: Shelf>(alloc: Global, store: &mut Store<'_, H>, call: ShelfCall) -> bool
     requires { FitsUnlessBroken (store_kinds store.old) (store_fault store.old) (H.seen store.old.shelf.now).told }
 {
-    let first = store.side(alloc, Side::Failing).err();
-    let second = store.side(alloc, Side::Times).err();
-    first == Some(SideFault::Store(StoreFault::Shelf(call)))
-        && second == Some(SideFault::Store(StoreFault::Closed(call)))
+    let first = store.cache_file(alloc, CacheFile::Failing).err();
+    let second = store.cache_file(alloc, CacheFile::Times).err();
+    first == Some(CacheFileFault::Store(StoreFault::Shelf(call)))
+        && second == Some(CacheFileFault::Store(StoreFault::Closed(call)))
 }

@@ -2,7 +2,7 @@
 ghost use Rattle.std.specs.Prelude.{◌≡◌, ◌<◌, length, nat_le, IfSome, IfNone};
 ghost use Rattle.stream_end.specs.Inside.{ends_inside as is_inside};
 
-use packet_codec::{Front, are_bytes, look};
+use packet_codec::{Front, are_bytes, look_at_front};
 
 /// Whether the bytes, as a whole stream, end inside a packet.
 pub fn ends_inside(bytes: &[u8]) -> bool
@@ -22,7 +22,7 @@ fn behind_piece(bytes: &[u8]) -> Option<&[u8]>
     ensures stops { IfNone result (is_inside bytes.now ≡ nat_le 2 (length bytes.now)) }
 {
     are_bytes(bytes);
-    match look(bytes) {
+    match look_at_front(bytes) {
         Front::Packet(size) => Some(&bytes[size..]),
         Front::No => Some(&bytes[1..]),
         Front::More => None,

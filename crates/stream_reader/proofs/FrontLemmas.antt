@@ -10,7 +10,7 @@ use Rattle.sub_number.proofs.NumberLemmas as fits
 use Rattle.packet_codec.specs.declared.event.Event.{Event}
 use Rattle.packet_codec.specs.Flags.{first_flags, second_flags}
 use Rattle.packet_codec.specs.Packet.{signature, SpellsEvent}
-use Rattle.packet_codec.specs.Grammar.{AreBytes, Found}
+use Rattle.packet_codec.specs.Grammar.{AreBytes, SpellsFront}
 use Rattle.packet_codec.specs.Header.{BeginsWithHeader, BeginsWithPacket, IsFrontOfHeader, NeedsMore}
 use Rattle.packet_codec.proofs.FlagLemmas.{first_bits, second_bits}
 use Rattle.packet_codec.proofs.GrammarLemmas.{fits_from_are}
@@ -92,7 +92,7 @@ packet_header p e s =
 pub packet_some : (p : List ℕ) (e : Event) → SpellsEvent p e → 0 < length p
 packet_some p e s = let h = packet_header p e s in omega (arith, h.3.room)
 
-found_begins : (b rest : List ℕ) (e : Event) → (f : Found SpellsEvent b e rest) → BeginsWithPacket b (length f.front)
+found_begins : (b rest : List ℕ) (e : Event) → (f : SpellsFront SpellsEvent b e rest) → BeginsWithPacket b (length f.front)
 found_begins b rest e f = begins f.front f.parts f.spelled
   where
     begins : (front : List ℕ) → b ≡ front ++ rest → SpellsEvent front e → BeginsWithPacket b (length front)

@@ -15,12 +15,12 @@ use Rattle.stream_reader.specs.Cut.{Piece, packet, foreign, BeginsWithPacketOf, 
 use Rattle.stream_reader.specs.Notes.{foreign_note, notes_behind, notes_of}
 use Rattle.stream_reader.specs.Stream.{Held, BeginsWithNotes, EndsWithNotes, HasGiven, IsSpent, GivesNote}
 use Rattle.stream_reader.specs.Run.{AreForeign, StopsBy, IsRun}
-use Rattle.stream_reader.specs.declared.first.First.{First}
-use Rattle.stream_reader.specs.declared.first.First.TheVariants as found
+use Rattle.stream_reader.specs.declared.first_note.First.{First}
+use Rattle.stream_reader.specs.declared.first_note.First.TheVariants as found
 use Rattle.stream_reader.specs.First.{IsFirst, FirstIs, IsMadeBy, front_behind, first_size}
 use Rattle.stream_reader.proofs.FrontLemmas.{are_dropped, packet_some, begins_found, found_longer, found_needs_no_more, are_both}
 use Rattle.stream_reader.proofs.CutLemmas.{found_not_empty, not_empty}
-use Rattle.stream_reader.proofs.NotesLemmas.{pieces_of, run_goes_on, run_is_full, run_at_packet, run_at_end}
+use Rattle.stream_reader.proofs.NotesLemmas.{foreign_pieces, run_goes_on, run_is_full, run_at_packet, run_at_end}
 use Rattle.stream_reader.proofs.RunLemmas.{IsRunOf, run_of, run_longer, cut_of_run, open_cut_of_run}
 
 -- ---- a packet
@@ -38,12 +38,12 @@ event_ends b rest e f = record {
 
 -- ---- a run in front of a packet
 
-in_front : (ps : List Piece) (at_end : List ℕ → List Note) (run b rest : List ℕ) (e : Event) → 0 < length run → length run ≤ 65536 → BeginsWithPacketOf b e rest → IsCut b ps → notes_behind at_end (pieces_of run ++ ps) [] ≡ note.Foreign run ∷ notes_behind at_end ps []
+in_front : (ps : List Piece) (at_end : List ℕ → List Note) (run b rest : List ℕ) (e : Event) → 0 < length run → length run ≤ 65536 → BeginsWithPacketOf b e rest → IsCut b ps → notes_behind at_end (foreign_pieces run ++ ps) [] ≡ note.Foreign run ∷ notes_behind at_end ps []
 in_front [] at_end run b rest e some short found cut = absurd (found_not_empty b rest e found cut)
 in_front (packet e' ∷ ps) at_end run b rest e some short found cut = run_at_packet run at_end e' ps some short
 in_front (foreign byte ∷ ps) at_end run b rest e some short found (rest', none, parts, cut) = absurd (none e rest found)
 
-in_front_open : (ps : List Piece) (at_end : List ℕ → List Note) (run b rest : List ℕ) (e : Event) → AreBytes b → 0 < length run → length run ≤ 65536 → BeginsWithPacketOf b e rest → IsOpenCut b ps → notes_behind at_end (pieces_of run ++ ps) [] ≡ note.Foreign run ∷ notes_behind at_end ps []
+in_front_open : (ps : List Piece) (at_end : List ℕ → List Note) (run b rest : List ℕ) (e : Event) → AreBytes b → 0 < length run → length run ≤ 65536 → BeginsWithPacketOf b e rest → IsOpenCut b ps → notes_behind at_end (foreign_pieces run ++ ps) [] ≡ note.Foreign run ∷ notes_behind at_end ps []
 in_front_open [] at_end run b rest e are some short found cut = absurd (found_needs_no_more b rest e are found cut)
 in_front_open (packet e' ∷ ps) at_end run b rest e are some short found cut = run_at_packet run at_end e' ps some short
 in_front_open (foreign byte ∷ ps) at_end run b rest e are some short found (rest', none, closed, parts, cut) = absurd (none e rest found)
@@ -51,12 +51,12 @@ in_front_open (foreign byte ∷ ps) at_end run b rest e are some short found (re
 run_begins : (run rest rest' : List ℕ) (e : Event) → AreBytes rest → 0 < length run → length run ≤ 65536 → IsRunOf false run rest → BeginsWithPacketOf rest e rest' → BeginsWithNotes (run ++ rest) (note.Foreign run ∷ []) rest
 run_begins run rest rest' e are some short is f = record {
   notes = λ more others are' h. record {
-    pieces = pieces_of run ++ h.pieces;
+    pieces = foreign_pieces run ++ h.pieces;
     cut = rw (append_assoc run rest more) (cut_of_run run (rest ++ more) false h.pieces (run_longer run rest more are' is) h.cut);
     made = ap (λ (l : List Note). note.Foreign run ∷ l) h.made ∙ sym (in_front h.pieces foreign_note run (rest ++ more) (rest' ++ more) e some short (found_longer rest rest' more e f) h.cut);
   };
   decided = λ more others are' h. record {
-    pieces = pieces_of run ++ h.pieces;
+    pieces = foreign_pieces run ++ h.pieces;
     cut = rw (append_assoc run rest more) (open_cut_of_run run (rest ++ more) h.pieces (run_longer run rest more are' is) h.cut);
     made = ap (λ (l : List Note). note.Foreign run ∷ l) h.made ∙ sym (in_front_open h.pieces (λ run. []) run (rest ++ more) (rest' ++ more) e (are_both rest more are are') some short (found_longer rest rest' more e f) h.cut);
   };
@@ -65,7 +65,7 @@ run_begins run rest rest' e are some short is f = record {
 run_ends : (run rest rest' : List ℕ) (e : Event) → 0 < length run → length run ≤ 65536 → IsRunOf true run rest → BeginsWithPacketOf rest e rest' → EndsWithNotes (run ++ rest) (note.Foreign run ∷ []) rest
 run_ends run rest rest' e some short is f = record {
   notes = λ others h. record {
-    pieces = pieces_of run ++ h.pieces;
+    pieces = foreign_pieces run ++ h.pieces;
     cut = cut_of_run run rest true h.pieces is h.cut;
     made = ap (λ (l : List Note). note.Foreign run ∷ l) h.made ∙ sym (in_front h.pieces foreign_note run rest rest' e some short f h.cut);
   };
@@ -76,12 +76,12 @@ run_ends run rest rest' e some short is f = record {
 full_begins : (run rest : List ℕ) → length run ≡ 65536 → IsRunOf false run rest → BeginsWithNotes (run ++ rest) (note.Foreign run ∷ []) rest
 full_begins run rest full is = record {
   notes = λ more others are h. record {
-    pieces = pieces_of run ++ h.pieces;
+    pieces = foreign_pieces run ++ h.pieces;
     cut = rw (append_assoc run rest more) (cut_of_run run (rest ++ more) false h.pieces (run_longer run rest more are is) h.cut);
     made = ap (λ (l : List Note). note.Foreign run ∷ l) h.made ∙ sym (run_is_full run foreign_note h.pieces [] (omega arith) (omega arith));
   };
   decided = λ more others are h. record {
-    pieces = pieces_of run ++ h.pieces;
+    pieces = foreign_pieces run ++ h.pieces;
     cut = rw (append_assoc run rest more) (open_cut_of_run run (rest ++ more) h.pieces (run_longer run rest more are is) h.cut);
     made = ap (λ (l : List Note). note.Foreign run ∷ l) h.made ∙ sym (run_is_full run (λ run. []) h.pieces [] (omega arith) (omega arith));
   };
@@ -90,7 +90,7 @@ full_begins run rest full is = record {
 full_ends : (run rest : List ℕ) → length run ≡ 65536 → IsRunOf true run rest → EndsWithNotes (run ++ rest) (note.Foreign run ∷ []) rest
 full_ends run rest full is = record {
   notes = λ others h. record {
-    pieces = pieces_of run ++ h.pieces;
+    pieces = foreign_pieces run ++ h.pieces;
     cut = cut_of_run run rest true h.pieces is h.cut;
     made = ap (λ (l : List Note). note.Foreign run ∷ l) h.made ∙ sym (run_is_full run foreign_note h.pieces [] (omega arith) (omega arith));
   };
@@ -109,7 +109,7 @@ last_ends run rest empty some short is = record {
       let cut : IsCut [] h.pieces = rw empty at h.cut in
       let none : others ≡ [] = h.made ∙ ap notes_of (no_pieces h.pieces cut) in
       record {
-        pieces = pieces_of run ++ [];
+        pieces = foreign_pieces run ++ [];
         cut = cut_of_run run rest true [] is empty;
         made = ap (λ (l : List Note). note.Foreign run ∷ l) none ∙ sym (run_at_end run some short);
       };
@@ -169,9 +169,9 @@ spent_open ended b count front front-is run = is ended run.in_range run.are_fore
     is true in_range are (going_on, less, more) = absurd cc
     is false in_range are (going_on, less, more) =
         let len : length (take count b) ≡ count = length-take-le count b in_range in
-        let cut : IsOpenCut (take count b ++ drop count b) (pieces_of (take count b) ++ []) = open_cut_of_run (take count b) (drop count b) [] (run_of count b false in_range are) more in
+        let cut : IsOpenCut (take count b ++ drop count b) (foreign_pieces (take count b) ++ []) = open_cut_of_run (take count b) (drop count b) [] (run_of count b false in_range are) more in
         record {
-          pieces = pieces_of (take count b) ++ [];
+          pieces = foreign_pieces (take count b) ++ [];
           cut = rw (take-append-drop count b) at cut;
           made = sym (run_goes_on (take count b) (λ run. []) [] [] (omega arith));
         }

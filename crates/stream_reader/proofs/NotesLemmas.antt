@@ -14,9 +14,9 @@ use Rattle.stream_reader.specs.Stream.{AreMadeOf}
 use Rattle.stream_reader.specs.Notes.{foreign_note, notes_behind, notes_of, BeginsForeign, AreFullRuns, events_of}
 
 -- the foreign pieces of a run
-abbrev pub pieces_of : List ℕ → List Piece
-pieces_of [] = []
-pieces_of (byte ∷ run) = foreign byte ∷ pieces_of run
+abbrev pub foreign_pieces : List ℕ → List Piece
+foreign_pieces [] = []
+foreign_pieces (byte ∷ run) = foreign byte ∷ foreign_pieces run
 
 -- ---- one byte
 
@@ -28,18 +28,18 @@ last_one at_end ps run byte full = cond-false _ _ _ (le-ltb (length run + 1) 655
 
 -- ---- runs
 
-pub run_goes_on : (run : List ℕ) (at_end : List ℕ → List Note) (ps : List Piece) (before : List ℕ) → length before + length run < 65536 → notes_behind at_end (pieces_of run ++ ps) before ≡ notes_behind at_end ps (before ++ run)
+pub run_goes_on : (run : List ℕ) (at_end : List ℕ → List Note) (ps : List Piece) (before : List ℕ) → length before + length run < 65536 → notes_behind at_end (foreign_pieces run ++ ps) before ≡ notes_behind at_end ps (before ++ run)
 run_goes_on [] at_end ps before less = ap (notes_behind at_end ps) (sym (append-nil before))
 run_goes_on (byte ∷ run) at_end ps before less =
-    one_more at_end (pieces_of run ++ ps) before byte (omega arith)
+    one_more at_end (foreign_pieces run ++ ps) before byte (omega arith)
     ∙ run_goes_on run at_end ps (before ++ byte ∷ []) (omega (arith, length-append before (byte ∷ [])))
     ∙ ap (notes_behind at_end ps) (append_assoc before (byte ∷ []) run)
 
-pub run_is_full : (run : List ℕ) (at_end : List ℕ → List Note) (ps : List Piece) (before : List ℕ) → 0 < length run → length before + length run ≡ 65536 → notes_behind at_end (pieces_of run ++ ps) before ≡ note.Foreign (before ++ run) ∷ notes_behind at_end ps []
+pub run_is_full : (run : List ℕ) (at_end : List ℕ → List Note) (ps : List Piece) (before : List ℕ) → 0 < length run → length before + length run ≡ 65536 → notes_behind at_end (foreign_pieces run ++ ps) before ≡ note.Foreign (before ++ run) ∷ notes_behind at_end ps []
 run_is_full [] at_end ps before some full = absurd (omega arith)
 run_is_full (byte ∷ []) at_end ps before some full = last_one at_end ps before byte (omega arith)
 run_is_full (byte ∷ byte' ∷ run) at_end ps before some full =
-    one_more at_end (pieces_of (byte' ∷ run) ++ ps) before byte (omega arith)
+    one_more at_end (foreign_pieces (byte' ∷ run) ++ ps) before byte (omega arith)
     ∙ run_is_full (byte' ∷ run) at_end ps (before ++ byte ∷ []) (omega arith) (omega (arith, length-append before (byte ∷ [])))
     ∙ ap (λ (l : List ℕ). note.Foreign l ∷ notes_behind at_end ps []) (append_assoc before (byte ∷ []) (byte' ∷ run))
 
@@ -48,14 +48,14 @@ note_of_run [] some = absurd (omega arith)
 note_of_run (byte ∷ run) some = refl
 
 -- a run in front of a packet
-pub run_at_packet : (run : List ℕ) (at_end : List ℕ → List Note) (e : Event) (ps : List Piece) → 0 < length run → length run ≤ 65536 → notes_behind at_end (pieces_of run ++ packet e ∷ ps) [] ≡ note.Foreign run ∷ notes_behind at_end (packet e ∷ ps) []
+pub run_at_packet : (run : List ℕ) (at_end : List ℕ → List Note) (e : Event) (ps : List Piece) → 0 < length run → length run ≤ 65536 → notes_behind at_end (foreign_pieces run ++ packet e ∷ ps) [] ≡ note.Foreign run ∷ notes_behind at_end (packet e ∷ ps) []
 run_at_packet run at_end e ps some short = elim (cases_lt (length run) 65536) [
   | inl less ↦ run_goes_on run at_end (packet e ∷ ps) [] (omega arith) ∙ ap (λ (l : List Note). l ++ note.Event e ∷ notes_behind at_end ps []) (note_of_run run some)
   | inr full ↦ run_is_full run at_end (packet e ∷ ps) [] some (omega arith)
 ]
 
 -- a run in front of the end
-pub run_at_end : (run : List ℕ) → 0 < length run → length run ≤ 65536 → notes_of (pieces_of run ++ []) ≡ note.Foreign run ∷ []
+pub run_at_end : (run : List ℕ) → 0 < length run → length run ≤ 65536 → notes_of (foreign_pieces run ++ []) ≡ note.Foreign run ∷ []
 run_at_end run some short = elim (cases_lt (length run) 65536) [
   | inl less ↦ run_goes_on run foreign_note [] [] (omega arith) ∙ note_of_run run some
   | inr full ↦ run_is_full run foreign_note [] [] some (omega arith)
@@ -81,11 +81,11 @@ decided_first (foreign byte ∷ ps) qs run = elim (cases_lt (length run + 1) 655
 
 -- ---- events alone
 
-abbrev pub packets_of : List Event → List Piece
-packets_of [] = []
-packets_of (e ∷ events) = packet e ∷ packets_of events
+abbrev pub packet_pieces : List Event → List Piece
+packet_pieces [] = []
+packet_pieces (e ∷ events) = packet e ∷ packet_pieces events
 
-pub notes_of_packets : (events : List Event) → notes_of (packets_of events) ≡ map note.Event events
+pub notes_of_packets : (events : List Event) → notes_of (packet_pieces events) ≡ map note.Event events
 notes_of_packets [] = refl
 notes_of_packets (e ∷ events) = ap (λ (l : List Note). note.Event e ∷ l) (notes_of_packets events)
 
@@ -125,7 +125,7 @@ are_made (foreign byte ∷ ps) run bytes (rest, none, parts, cut) = elim (cases_
     whole : run ++ bytes ≡ (run ++ byte ∷ []) ++ rest
     whole = ap (λ (l : List ℕ). run ++ l) parts ∙ sym (append_assoc run (byte ∷ []) rest)
 
-pub cut_of_written : (events : List Event) → All IsEvent events → All Fits events → IsCut (flat_map canonical events) (packets_of events)
+pub cut_of_written : (events : List Event) → All IsEvent events → All Fits events → IsCut (flat_map canonical events) (packet_pieces events)
 cut_of_written [] are fit = refl
 cut_of_written (e ∷ events) are fit = (
   flat_map canonical events,

@@ -8,10 +8,10 @@ use Rattle.packet_codec.specs.Grammar.{AreBytes}
 use Rattle.packet_codec.specs.Header.{BeginsWithPacket, NeedsMore, LooksLike}
 use Rattle.packet_codec.specs.declared.front.Front.TheVariants.{More, No}
 use Rattle.packet_codec.specs.Shapes.{HeaderStands}
-use Rattle.packet_codec.specs.Sight.{IsSeen}
+use Rattle.packet_codec.specs.Sight.{IsSightOf}
 use Rattle.packet_codec.specs.declared.header.Header.{Header}
-use Rattle.packet_codec.specs.declared.sight.Sight.{Sight}
-use Rattle.packet_codec.specs.declared.sight.Sight.TheVariants as sight
+use Rattle.packet_codec.specs.declared.front_reader.Sight.{Sight}
+use Rattle.packet_codec.specs.declared.front_reader.Sight.TheVariants as sight
 use Rattle.packet_codec.proofs.GrammarLemmas.{fits_from_are}
 use Rattle.packet_codec.proofs.SpelledLemmas.{read_packet}
 use Rattle.packet_codec.proofs.LookLemmas.{front_of_none, header_begins, is_no_packet}
@@ -19,7 +19,7 @@ use Rattle.packet_codec.proofs.AnswerLemmas.{packet_needs_no_more}
 use Rattle.stream_reader.specs.Cut.{Piece, IsCut, IsOpenCut}
 use Rattle.stream_reader.specs.Run.{IsForeign, AreForeign, IsRun}
 use Rattle.stream_reader.proofs.FrontLemmas.{packet_longer, none_found, stays_none, stays_closed, header_first, front_first, are_dropped}
-use Rattle.stream_reader.proofs.NotesLemmas.{pieces_of}
+use Rattle.stream_reader.proofs.NotesLemmas.{foreign_pieces}
 
 -- ---- one place
 
@@ -49,7 +49,7 @@ pub candidate_some : (b : List ℕ) (header : Header) → HeaderStands b header 
 candidate_some b header stands in_range = omega (arith, stands.spelled.room)
 
 -- where such a header stands, what is seen to be no packet is foreign
-pub foreign_by_sight : (ended : Bool) (b : List ℕ) (header : Header) (seen : Sight) → AreBytes b → HeaderStands b header → header.size ≤ length b → IsSeen b seen → ((packet : List ℕ) → seen ≡ sight.Packet packet → ⊥) → IsForeign ended b
+pub foreign_by_sight : (ended : Bool) (b : List ℕ) (header : Header) (seen : Sight) → AreBytes b → HeaderStands b header → header.size ≤ length b → IsSightOf b seen → ((packet : List ℕ) → seen ≡ sight.Packet packet → ⊥) → IsForeign ended b
 foreign_by_sight ended b header (sight.Packet packet) are stands in_range sees other = absurd (other packet refl)
 foreign_by_sight ended b header sight.More are stands in_range sees other = absurd (whole_needs_no_more b header are stands in_range sees)
 foreign_by_sight ended b header sight.No are stands in_range sees other = foreign_by_look ended b sees
@@ -111,11 +111,11 @@ run_longer (byte ∷ run) rest more are (here, others) = (
   run_longer run rest more are others,
 )
 
-pub cut_of_run : (run rest : List ℕ) (ended : Bool) (ps : List Piece) → IsRunOf ended run rest → IsCut rest ps → IsCut (run ++ rest) (pieces_of run ++ ps)
+pub cut_of_run : (run rest : List ℕ) (ended : Bool) (ps : List Piece) → IsRunOf ended run rest → IsCut rest ps → IsCut (run ++ rest) (foreign_pieces run ++ ps)
 cut_of_run [] rest ended ps is cut = cut
 cut_of_run (byte ∷ run) rest ended ps (here, others) cut = (run ++ rest, none_found (byte ∷ (run ++ rest)) here.none, refl, cut_of_run run rest ended ps others cut)
 
-pub open_cut_of_run : (run rest : List ℕ) (ps : List Piece) → IsRunOf false run rest → IsOpenCut rest ps → IsOpenCut (run ++ rest) (pieces_of run ++ ps)
+pub open_cut_of_run : (run rest : List ℕ) (ps : List Piece) → IsRunOf false run rest → IsOpenCut rest ps → IsOpenCut (run ++ rest) (foreign_pieces run ++ ps)
 open_cut_of_run [] rest ps is cut = cut
 open_cut_of_run (byte ∷ run) rest ps (here, others) cut = (run ++ rest, none_found (byte ∷ (run ++ rest)) here.none, here.never refl, refl, open_cut_of_run run rest ps others cut)
 

@@ -2,7 +2,7 @@
 use Rattle.std.specs.Prelude.{◌≡◌, ℕ, List, [], ◌∷◌}
 use Rattle.packet_codec.specs.declared.event.Event.{Event}
 use Rattle.packet_codec.specs.Packet.{SpellsEvent}
-use Rattle.packet_codec.specs.Grammar.{Found, NotFound}
+use Rattle.packet_codec.specs.Grammar.{SpellsFront, NotFound}
 use Rattle.packet_codec.specs.Header.{NeedsMore}
 
 -- a packet of this event, or a foreign byte
@@ -12,7 +12,7 @@ pub data Piece : Type 0 where
 
 -- a packet of this event stands at the front, and then the rest
 abbrev pub BeginsWithPacketOf : List ℕ → Event → List ℕ → Type 0
-BeginsWithPacketOf = Found SpellsEvent
+BeginsWithPacketOf = SpellsFront SpellsEvent
 
 -- no front of the bytes is a packet
 abbrev pub BeginsWithNone : List ℕ → Type 0

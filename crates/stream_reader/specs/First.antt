@@ -9,12 +9,12 @@ use Rattle.packet_codec.specs.declared.front.Front.{Front}
 use Rattle.packet_codec.specs.declared.front.Front.TheVariants as front
 use Rattle.stream_reader.specs.declared.note.Note.{Note}
 use Rattle.stream_reader.specs.declared.note.Note.TheVariants as note
-use Rattle.stream_reader.specs.declared.first.First.{First}
-use Rattle.stream_reader.specs.declared.first.First.TheVariants.{Packet, Foreign, Nothing}
-use Rattle.stream_reader.specs.declared.first.Made.{Made}
-use Rattle.stream_reader.specs.declared.first.Made.TheVariants as made
-use Rattle.stream_reader.specs.declared.first.Seen.{Seen}
-use Rattle.stream_reader.specs.declared.first.Seen.TheVariants.{Candidate, Told}
+use Rattle.stream_reader.specs.declared.first_note.First.{First}
+use Rattle.stream_reader.specs.declared.first_note.First.TheVariants.{Packet, Foreign, Nothing}
+use Rattle.stream_reader.specs.declared.first_note.Made.{Made}
+use Rattle.stream_reader.specs.declared.first_note.Made.TheVariants as made
+use Rattle.stream_reader.specs.declared.first_note.Seen.{Seen}
+use Rattle.stream_reader.specs.declared.first_note.Seen.TheVariants.{Candidate, Told}
 use Rattle.stream_reader.specs.Run.{IsRun, IsForeign}
 use Rattle.stream_reader.specs.Stream.{HasGiven, IsMadeOf, IsSpent}
 

@@ -2,8 +2,8 @@
 use Rattle.std.specs.Prelude.{ℕ}
 
 -- the most bytes that it has room for
-abbrev pub room : ℕ
-room = 4325376
+abbrev pub reader_room : ℕ
+reader_room = 4325376
 
 -- The most that it holds before the end where no further note is decided: 65,535 foreign bytes, and then all but one of
 -- the bytes of the longest packet.

@@ -4,10 +4,10 @@ ghost use Rattle.std.specs.Prelude.{◌≡◌, ◌≤◌, ◌+◌, ◌-◌, ◌+
 ghost use Rattle.sub_number.specs.Checksum.{crc32};
 ghost use Rattle.packet_codec.specs.Header.{LooksLike};
 ghost use Rattle.packet_codec.specs.Shapes.{HeaderStands};
-ghost use Rattle.stream_reader.specs.Room.{room};
+ghost use Rattle.stream_reader.specs.Room.{reader_room};
 
 use crc_parts::Prefixes;
-use packet_codec::{Front, Header, Heading, head_of, look_by};
+use packet_codec::{Front, Header, Heading, head_of, look_at_front_by};
 use std::alloc::Global;
 use std::marker::Model;
 use sub_number::{NoMemory, crc_of};
@@ -77,7 +77,7 @@ impl Buffer {
     /// How many bytes are held.
     pub(crate) fn len(&self) -> usize
         ensures len { result ≡ length self.now }
-        ensures in_room { result ≤ room }
+        ensures in_room { result ≤ reader_room }
     {
         self.bytes.len() - self.given
     }
@@ -91,7 +91,7 @@ impl Buffer {
 
     /// More bytes, behind those held.
     pub(crate) fn append(&mut self, piece: &[u8])
-        requires { length self.old + length piece.now ≤ room }
+        requires { length self.old + length piece.now ≤ reader_room }
         ensures { self.new ≡ self.old ++ piece.now }
     {
         if self.given < self.len() && self.bytes.len() + piece.len() <= CAPACITY {
@@ -124,7 +124,7 @@ impl Buffer {
         match head_of(&self.held()[place..]) {
             Heading::Whole(header) => {
                 let sum = self.sum_at(place, place + (header.size - CHECKSUM));
-                look_by(header, &self.held()[place..], sum)
+                look_at_front_by(header, &self.held()[place..], sum)
             }
             Heading::More => Front::More,
             Heading::No => Front::No,

@@ -8,14 +8,14 @@
 //!
 //! - `note`: an event, or foreign bytes
 //! - `reader`: the bytes fed, and the notes that they decide; it stands on `buffer`, the bytes held
-//! - `first`: what the first note is made of, before it is let go of
+//! - `first_note`: what the first note is made of, before it is let go of
 //! - `foreign_bytes`: the foreign bytes at the front of what is held
 //! - `whole_stream`: the notes of a whole stream
 //! - `laws`: what holds of the notes of all streams
 #![tactic(auto)]
 
 mod buffer;
-mod first;
+mod first_note;
 mod foreign_bytes;
 mod laws;
 mod note;
@@ -23,7 +23,7 @@ mod reader;
 mod whole_stream;
 
 pub use buffer::{MOST_HELD, ROOM};
-pub use first::{First, Seen};
+pub use first_note::{First, Seen};
 pub use laws::{notes_in_turn, notes_of_streams};
 pub use note::{Note, stdout_event};
 pub use reader::Reader;

@@ -4,19 +4,19 @@ ghost use Rattle.std.specs.Prelude.{◌≡◌, ◌<◌, ◌≤◌, ◌+◌, ◌+
 ghost use Rattle.packet_codec.specs.Header.{BeginsWithPacket};
 ghost use Rattle.packet_codec.specs.Sight.{BeginsWithThis};
 ghost use Rattle.stream_reader.specs.declared.note.Note.{Note};
-ghost use Rattle.stream_reader.specs.declared.first.First.TheVariants.{Nothing};
+ghost use Rattle.stream_reader.specs.declared.first_note.First.TheVariants.{Nothing};
 ghost use Rattle.stream_reader.specs.Notes.{longest_foreign};
 ghost use Rattle.stream_reader.specs.First.{FirstIs, HasEvent, IsCandidate, IsForeignAtFront, IsMadeBy, SeenIs, first_of};
-ghost use Rattle.stream_reader.specs.Room.{room, most_held};
+ghost use Rattle.stream_reader.specs.Room.{reader_room, most_held};
 ghost use Rattle.stream_reader.specs.Run.{AreForeign};
 ghost use Rattle.stream_reader.specs.Stream.{GivesNote, IsSpent};
 
 use crate::buffer::Buffer;
-use crate::first::{First, Made, Seen};
+use crate::first_note::{First, Made, Seen};
 use crate::foreign_bytes::foreign_run;
 use crate::note::Note;
 use packet_codec::{
-    Front, Header, Heading, Packet, Sight, are_bytes, head_of, known_packet, see_by,
+    Front, Header, Heading, Packet, Sight, are_bytes, head_of, known_packet, see_front_by,
 };
 use std::alloc::Global;
 use std::marker::Model;
@@ -72,7 +72,7 @@ impl Reader {
     /// takes no memory.
     pub fn feed(&mut self, piece: &[u8])
         requires going_on { self.old.ended ≡ false }
-        requires in_room { length self.old.bytes + length piece.now ≤ room }
+        requires in_room { length self.old.bytes + length piece.now ≤ reader_room }
         ensures { self.new ≡ record { bytes = self.old.bytes ++ piece.now; ended = false } }
     {
         self.buffer.append(piece);
@@ -110,7 +110,7 @@ impl Reader {
     /// How many bytes were fed that belong to no note given. They are 4,325,376 at most.
     pub fn held(&self) -> usize
         ensures held { result ≡ length self.now.bytes }
-        ensures in_room { result ≤ room }
+        ensures in_room { result ≤ reader_room }
     {
         self.buffer.len()
     }
@@ -147,7 +147,7 @@ impl Reader {
         ensures none { IfNone result (IsForeignAtFront self.now.ended self.now.bytes) }
     {
         are_bytes(self.buffer.held());
-        match see_by(header, self.buffer.held(), sum) {
+        match see_front_by(header, self.buffer.held(), sum) {
             Sight::Packet(packet) => Some(packet),
             _ => None,
         }

@@ -3,7 +3,7 @@ use Rattle.std.specs.Prelude.{ℕ, ◌+◌, ◌-◌, Bool, true, false, ◌&&◌
 use Rattle.std.specs.List.{list_any, flat_map, fold}
 use Rattle.std.specs.Option.{option_map, option_and_then, option_to_list, unwrap_or}
 use Rattle.std.specs.Str.{bytes_eq}
-use Rattle.command_words.specs.Items.{Item, flag, valued, name, items_of}
+use Rattle.command_words.specs.Items.{Item, flag, valued, name, items_of, values_in}
 use Rattle.command_words.specs.declared.table.Kind.{Kind}
 use Rattle.command_words.specs.declared.table.Kind.TheVariants.{Valued}
 use Rattle.std.proofs.Common.{arith}
@@ -25,8 +25,8 @@ abbrev pub piece_size : ℕ
 piece_size = 65536
 
 -- a piece of the attached file
-abbrev pub piece_of : Option Stamp → Option (List ℕ) → Attachment → List ℕ → Event
-piece_of stamp id attachment bytes = record {
+abbrev pub attachment_event : Option Stamp → Option (List ℕ) → Attachment → List ℕ → Event
+attachment_event stamp id attachment bytes = record {
   stamp = stamp;
   id = id;
   tags = None;
@@ -39,12 +39,12 @@ piece_of stamp id attachment bytes = record {
 }
 
 -- the same, where the job attaches a file
-abbrev pub piece_event : Job → List ℕ → Option Event
-piece_event job bytes = option_map (λ attachment. piece_of job.stamp job.id attachment bytes) job.attachment
+abbrev pub attached_piece_event : Job → List ℕ → Option Event
+attached_piece_event job bytes = option_map (λ attachment. attachment_event job.stamp job.id attachment bytes) job.attachment
 
 -- the path of the file that the job attaches, where it is not standard input
-abbrev pub path_of : Job → Option (List ℕ)
-path_of job = option_and_then (λ attachment. attachment.path) job.attachment
+abbrev pub attached_path : Job → Option (List ℕ)
+attached_path job = option_and_then (λ attachment. attachment.path) job.attachment
 
 -- the last event
 abbrev pub last_event : Job → Event
@@ -66,7 +66,7 @@ longest_bytes = replicate piece_size 0
 
 -- all events of a job where these bytes are read
 abbrev pub output_events : Job → List ℕ → List Event
-output_events job bytes = flat_map (λ piece. option_to_list (piece_event job piece)) (pieces_of bytes) ++ last_event job ∷ []
+output_events job bytes = flat_map (λ piece. option_to_list (attached_piece_event job piece)) (pieces_of bytes) ++ last_event job ∷ []
 
 -- ---- the job that words ask for
 
@@ -96,45 +96,35 @@ abbrev pub output_kind : List ℕ → Option Kind
 output_kind option = if is_some (status_named option) || is_other_option option then Some Valued else None
 
 -- what an option says that gives a status
-pub record Verdict : Type 0 where
+pub record StatusOption : Type 0 where
   pub status : Status
   pub id : List ℕ
 
 -- the status and the id that an option tells, where it is the name of a status
-abbrev pub verdict_in : Item → Option Verdict
+abbrev pub verdict_in : Item → Option StatusOption
 verdict_in (flag given) = None
 verdict_in (valued option value) = option_map (λ s. record { status = s; id = value }) (status_named option)
 verdict_in (name word) = None
 
 -- the verdicts that the items tell, in their order
-abbrev pub verdicts_in : List Item → List Verdict
+abbrev pub verdicts_in : List Item → List StatusOption
 verdicts_in items = flat_map (λ item. option_to_list (verdict_in item)) items
-
--- the value of an option of this name
-abbrev pub value_in : List ℕ → Item → Option (List ℕ)
-value_in option (flag given) = None
-value_in option (valued given value) = if bytes_eq given option then Some value else None
-value_in option (name word) = None
-
--- the values of this option, in the order of the words
-abbrev pub values_in : List ℕ → List Item → List (List ℕ)
-values_in option items = flat_map (λ item. option_to_list (value_in option item)) items
 
 -- the last value of the option stands
 abbrev pub last_value : Option (List ℕ) → List (List ℕ) → Option (List ℕ)
 last_value before values = fold (λ before now. Some now) before values
 
 -- the last value of this option, where it has one
-abbrev pub value_of : List ℕ → List Item → Option (List ℕ)
-value_of option items = last_value None (values_in option items)
+abbrev pub last_value_in : List ℕ → List Item → Option (List ℕ)
+last_value_in option items = last_value None (values_in option items)
 
 -- The stamp of a moment. A moment that is read has fewer than 1,000,000,000 nanoseconds, so none is lost.
-abbrev pub stamp_at : Moment → Stamp
-stamp_at moment = record { seconds = moment.seconds; nanos = min moment.nanos 1073741823; nanos_fit = omega arith }
+abbrev pub moment_stamp : Moment → Stamp
+moment_stamp moment = record { seconds = moment.seconds; nanos = min moment.nanos 1073741823; nanos_fit = omega arith }
 
 -- the stamp of the time that a word tells
 unfoldable pub stamp_told : List ℕ → Option Stamp
-stamp_told time = option_map stamp_at (instant_of time)
+stamp_told time = option_map moment_stamp (instant_of time)
 
 -- a time that is none
 abbrev pub is_no_time : (option value : List ℕ) → Bool
@@ -147,8 +137,8 @@ is_refused_item (valued option value) = is_no_time option value
 is_refused_item (name word) = true
 
 -- what the items say in all: at most one status, the tags, and the values of the other options
-pub record Told : Type 0 where
-  pub verdict : Option Verdict
+pub record OptionsTold : Type 0 where
+  pub verdict : Option StatusOption
   pub tags : List (List ℕ)
   pub attached : Option (List ℕ)
   pub name : Option (List ℕ)
@@ -156,7 +146,7 @@ pub record Told : Type 0 where
   pub time : Option (List ℕ)
 
 -- A status or a file is told. Tags stand beside a status, a name and a type beside a file.
-abbrev pub agrees : Told → Bool
+abbrev pub agrees : OptionsTold → Bool
 agrees t =
     (is_some t.verdict || is_some t.attached)
     && ((is_some t.verdict || length t.tags == 0)
@@ -171,7 +161,7 @@ abbrev pub own_name : List ℕ → List ℕ
 own_name file = if bytes_eq file (codes "-") then codes "stdin" else file
 
 -- the job that is told so
-abbrev pub job_with : Told → Job
+abbrev pub job_with : OptionsTold → Job
 job_with t = record {
   stamp = option_and_then stamp_told t.time;
   id = option_map (λ v. v.id) t.verdict;
@@ -187,29 +177,29 @@ has_packet e = nat_le (canonical_size e) largest_packet
 -- of a file that is attached each piece has a packet, since the longest one has
 abbrev pub longest_piece_fits : Option Stamp → Option (List ℕ) → Option Attachment → Bool
 longest_piece_fits stamp id None = true
-longest_piece_fits stamp id (Some attachment) = has_packet (piece_of stamp id attachment longest_bytes)
+longest_piece_fits stamp id (Some attachment) = has_packet (attachment_event stamp id attachment longest_bytes)
 
 -- each event of the job has a packet, also that of the longest piece
 abbrev pub job_fits : Job → Bool
 job_fits job = has_packet (last_event job) && longest_piece_fits job.stamp job.id job.attachment
 
 -- what the items tell beside this verdict
-abbrev pub told_by : List Item → Option Verdict → Told
+abbrev pub told_by : List Item → Option StatusOption → OptionsTold
 told_by items verdict = record {
   verdict = verdict;
   tags = values_in (codes "--tag") items;
-  attached = value_of (codes "--attach-file") items;
-  name = value_of (codes "--file-name") items;
-  mime = value_of (codes "--mimetype") items;
-  time = value_of (codes "--timestamp") items;
+  attached = last_value_in (codes "--attach-file") items;
+  name = last_value_in (codes "--file-name") items;
+  mime = last_value_in (codes "--mimetype") items;
+  time = last_value_in (codes "--timestamp") items;
 }
 
 -- the job that is told, where its parts agree and its events have packets
-abbrev pub job_if : Told → Option Job
+abbrev pub job_if : OptionsTold → Option Job
 job_if t = if agrees t && job_fits (job_with t) then Some (job_with t) else None
 
 -- at most one status is told
-abbrev pub job_by : List Item → List Verdict → Option Job
+abbrev pub job_by : List Item → List StatusOption → Option Job
 job_by items [] = job_if (told_by items None)
 job_by items (v ∷ []) = job_if (told_by items (Some v))
 job_by items (v ∷ w ∷ more) = None

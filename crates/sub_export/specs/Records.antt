@@ -10,7 +10,7 @@ use Rattle.outcome_fold.specs.declared.row.Ended.TheVariants as ended
 use Rattle.outcome_fold.specs.declared.row.Row.{Row}
 use Rattle.outcome_fold.specs.declared.test_key.TestKey.{TestKey}
 use Rattle.outcome_fold.specs.Order.{test_cmp, table}
-use Rattle.outcome_fold.specs.Parts.{test_of, events_of_test, ended_by, completes, last_part, instant, start_of}
+use Rattle.outcome_fold.specs.Parts.{test_of, events_of_test, ended_by, has_end_status, last_part, instant, start_of}
 use Rattle.outcome_fold.specs.Rows.{completed_row, open_tests, part_with, row_of}
 use Rattle.instants.specs.Instants.{instant_text}
 
@@ -47,7 +47,7 @@ end_by (Some e) = unwrap_or (ended_by e.status) ended.Open
 -- the instant of the completing event, where there is one
 abbrev pub stop_by : Option Event → Option ℕ
 stop_by None = None
-stop_by (Some e) = if completes e then option_map instant e.stamp else None
+stop_by (Some e) = if has_end_status e then option_map instant e.stamp else None
 
 -- the id that the part's events have
 abbrev pub id_of : List Event → Option (List ℕ)

@@ -5,14 +5,14 @@ use Rattle.sub_export.specs.declared.told_items.Verdicts.{Verdicts}
 use Rattle.sub_export.specs.declared.told_items.Verdicts.TheVariants as said
 use Rattle.std.specs.Option.{option_map}
 use Rattle.sub_export.specs.declared.job.Told as code
-use Rattle.sub_export.specs.Output.{Verdict, Told}
+use Rattle.sub_export.specs.Output.{StatusOption, OptionsTold}
 
 -- the verdict that the code's verdict stands for
-abbrev pub verdict_meant : Said → Verdict
+abbrev pub verdict_meant : Said → StatusOption
 verdict_meant v = record { status = v.status; id = v.id.now }
 
 -- these are the verdicts, where there is at most one
-abbrev pub AreVerdicts : Verdicts → List Verdict → Type 0
+abbrev pub AreVerdicts : Verdicts → List StatusOption → Type 0
 AreVerdicts said.Nothing [] = ⊤
 AreVerdicts said.Nothing (v ∷ vs) = ⊥
 AreVerdicts (said.Once s) [] = ⊥
@@ -23,7 +23,7 @@ AreVerdicts said.Several (v ∷ []) = ⊥
 AreVerdicts said.Several (v ∷ w ∷ more) = ⊤
 
 -- what is told
-abbrev pub told_meant : code.Told → Told
+abbrev pub told_meant : code.Told → OptionsTold
 told_meant t = record {
   verdict = option_map verdict_meant t.verdict;
   tags = t.tags;

@@ -3,7 +3,7 @@
 ghost use Rattle.std.specs.Prelude.{◌≡◌, map, codes, IsTrue, IfOk, IfSome};
 ghost use Rattle.std.specs.Option.{option_map, option_and_then, unwrap_or};
 ghost use Rattle.command_words.specs.Items.{texts};
-ghost use Rattle.command_words.specs.Code.{shown};
+ghost use Rattle.command_words.specs.Code.{item_meant};
 ghost use Rattle.packet_codec.specs.Retagging.{if_any};
 ghost use Rattle.sub_export.specs.Output as spec;
 ghost use Rattle.sub_export.specs.Said.{told_meant, verdict_meant};
@@ -71,7 +71,7 @@ pub(crate) fn piece_of(
     attachment: &Attachment,
     bytes: &[u8],
 ) -> Result<Event, NoMemory>
-    ensures { IfOk result (λ event. event ≡ spec.piece_of stamp id.now attachment.now bytes.now) }
+    ensures { IfOk result (λ event. event ≡ spec.attachment_event stamp id.now attachment.now bytes.now) }
 {
     let file = FilePart {
         name: attachment.name.copy()?,
@@ -125,7 +125,7 @@ fn longest_piece(
     id: &Option<Text>,
     attachment: &Attachment,
 ) -> Result<Event, NoMemory>
-    ensures { IfOk result (λ event. event ≡ spec.piece_of stamp id.now attachment.now spec.longest_bytes) }
+    ensures { IfOk result (λ event. event ≡ spec.attachment_event stamp id.now attachment.now spec.longest_bytes) }
 {
     piece_of(alloc, stamp, id, attachment, &[0; PIECE_SIZE])
 }
@@ -290,7 +290,7 @@ fn told_by<'a>(
     items: &[Item<'a>],
     verdict: Option<Said<'a>>,
 ) -> Result<Told<'a>, NoMemory>
-    ensures { IfOk result (λ told. told_meant told ≡ spec.told_by (map shown items.now) (option_map verdict_meant verdict.entry)) }
+    ensures { IfOk result (λ told. told_meant told ≡ spec.told_by (map item_meant items.now) (option_map verdict_meant verdict.entry)) }
 {
     Ok(Told {
         verdict,
@@ -304,7 +304,7 @@ fn told_by<'a>(
 
 // The job that the items ask for.
 fn job_behind(alloc: Global, items: &[Item<'_>]) -> Result<Option<Job>, NoMemory>
-    ensures job { IfOk result (λ job. job ≡ spec.job_behind (map shown items.now)) }
+    ensures job { IfOk result (λ job. job ≡ spec.job_behind (map item_meant items.now)) }
     ensures fits { IfOk result (λ job. IfSome job (λ job. IsTrue (spec.job_fits job))) }
 {
     if has_refused(items) {

@@ -53,7 +53,7 @@ impl OutputJob {
 
     /// The path of the file that is attached. None comes exactly where none is, or where it is standard input.
     pub fn path(&self) -> Option<&Text>
-        ensures { option_map (λ path. path.now) result ≡ spec.path_of self.now }
+        ensures { option_map (λ path. path.now) result ≡ spec.attached_path self.now }
     {
         match &self.job.attachment {
             Some(attachment) => attachment.path.as_ref(),
@@ -65,7 +65,7 @@ impl OutputJob {
     pub fn piece(&self, bytes: &[u8]) -> Result<Event, NoMemory>
         requires attaches { IsTrue (is_some self.now.attachment) }
         requires short { length bytes.now ≤ spec.piece_size }
-        ensures event { IfOk result (λ event. Some event ≡ spec.piece_event self.now bytes.now) }
+        ensures event { IfOk result (λ event. Some event ≡ spec.attached_piece_event self.now bytes.now) }
         ensures fits { IfOk result Fits }
     {
         match &self.job.attachment {

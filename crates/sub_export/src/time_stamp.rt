@@ -11,7 +11,7 @@ const MOST_NANOS: u32 = 1_073_741_823;
 
 // The stamp of the instant.
 fn stamp_at(instant: Instant) -> Stamp
-    ensures { result ≡ spec.stamp_at (meant instant) }
+    ensures { result ≡ spec.moment_stamp (meant instant) }
 {
     Stamp {
         seconds: instant.seconds,

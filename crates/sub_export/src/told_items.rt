@@ -2,9 +2,10 @@
 
 ghost use Rattle.std.specs.Prelude.{◌≡◌, List, [], ◌∷◌, ◌++◌, map, option_map, codes, IfOk};
 ghost use Rattle.std.specs.List.{list_any};
-ghost use Rattle.command_words.specs.Code.{shown};
+ghost use Rattle.command_words.specs.Code.{item_meant};
+ghost use Rattle.command_words.specs.Items.{value_of, values_in};
 ghost use Rattle.sub_export.specs.Output as spec;
-ghost use Rattle.sub_export.specs.Output.{Verdict};
+ghost use Rattle.sub_export.specs.Output.{StatusOption};
 ghost use Rattle.sub_export.specs.Said.{AreVerdicts, verdict_meant};
 
 use crate::options::status_named;
@@ -34,7 +35,7 @@ pub(crate) enum Verdicts<'a> {
 
 // The status that the item gives a test.
 fn verdict_in<'a>(item: &Item<'a>) -> Option<Said<'a>>
-    ensures { option_map verdict_meant result ≡ spec.verdict_in (shown item.now) }
+    ensures { option_map verdict_meant result ≡ spec.verdict_in (item_meant item.now) }
 {
     match item {
         Item::Valued(option, id) => match status_named(option) {
@@ -47,7 +48,7 @@ fn verdict_in<'a>(item: &Item<'a>) -> Option<Said<'a>>
 
 // The statuses with one more behind them.
 fn one_more<'a>(before: Verdicts<'a>, verdict: Said<'a>) -> Verdicts<'a>
-    ensures { (told : List Verdict) → AreVerdicts before.entry told → AreVerdicts result (told ++ verdict_meant verdict.entry ∷ []) }
+    ensures { (told : List StatusOption) → AreVerdicts before.entry told → AreVerdicts result (told ++ verdict_meant verdict.entry ∷ []) }
 {
     match before {
         Verdicts::Nothing => Verdicts::Once(verdict),
@@ -57,7 +58,7 @@ fn one_more<'a>(before: Verdicts<'a>, verdict: Said<'a>) -> Verdicts<'a>
 
 /// The statuses that the items give.
 pub(crate) fn verdicts_in<'a>(items: &[Item<'a>]) -> Verdicts<'a>
-    ensures { AreVerdicts result (spec.verdicts_in (map shown items.now)) }
+    ensures { AreVerdicts result (spec.verdicts_in (map item_meant items.now)) }
 {
     let mut verdicts = Verdicts::Nothing;
     for item in items {
@@ -70,7 +71,7 @@ pub(crate) fn verdicts_in<'a>(items: &[Item<'a>]) -> Verdicts<'a>
 
 // The value of the item, where it is the option of this name.
 fn value_in<'a>(option: &str, item: &Item<'a>) -> Option<&'a str>
-    ensures { option_map (λ value. value.now) result ≡ spec.value_in option.now (shown item.now) }
+    ensures { option_map (λ value. value.now) result ≡ value_of option.now (item_meant item.now) }
 {
     match item {
         Item::Valued(given, value) if *given == option => Some(value),
@@ -80,7 +81,7 @@ fn value_in<'a>(option: &str, item: &Item<'a>) -> Option<&'a str>
 
 /// The last value of the option of this name.
 pub(crate) fn value_of<'a>(option: &str, items: &[Item<'a>]) -> Option<&'a str>
-    ensures { option_map (λ value. value.now) result ≡ spec.value_of option.now (map shown items.now) }
+    ensures { option_map (λ value. value.now) result ≡ spec.last_value_in option.now (map item_meant items.now) }
 {
     let mut last = None;
     for item in items {
@@ -94,13 +95,13 @@ pub(crate) fn value_of<'a>(option: &str, items: &[Item<'a>]) -> Option<&'a str>
 
 /// Whether a word is no option, or a time that is none.
 pub(crate) fn has_refused(items: &[Item<'_>]) -> bool
-    ensures { result ≡ list_any (λ item. spec.is_refused_item (shown item)) items.now }
+    ensures { result ≡ list_any (λ item. spec.is_refused_item (item_meant item)) items.now }
 {
     items.iter().any(|item| is_refused(item))
 }
 
 fn is_refused(item: &Item<'_>) -> bool
-    ensures { result ≡ spec.is_refused_item (shown item.now) }
+    ensures { result ≡ spec.is_refused_item (item_meant item.now) }
 {
     match item {
         Item::Flag(_) => false,
@@ -127,7 +128,7 @@ pub(crate) fn word_text(alloc: Global, word: &str) -> Result<Text, NoMemory>
 
 /// The values of the option `--tag`.
 pub(crate) fn tags_in(alloc: Global, items: &[Item<'_>]) -> Result<Tags, NoMemory>
-    ensures { IfOk result (λ tags. tags ≡ spec.values_in (codes "--tag") (map shown items.now)) }
+    ensures { IfOk result (λ tags. tags ≡ values_in (codes "--tag") (map item_meant items.now)) }
 {
     let mut tags = Tags::new(alloc);
     for item in items {

@@ -5,7 +5,8 @@ use Rattle.std.specs.Fmt.{decimal}
 use Rattle.outcome_fold.specs.declared.row.Row.{Row}
 use Rattle.outcome_fold.specs.declared.row.Counts.{Counts}
 use Rattle.outcome_fold.specs.Answers.{counts_of, seen_tags_of}
-use Rattle.sub_text.specs.Texts.{newline, printed_seconds}
+use Rattle.sub_number.specs.Seconds.{printed_seconds}
+use Rattle.sub_text.specs.Texts.{newline}
 
 -- the time behind an id, where times are asked for and it has one
 abbrev pub time_shown : Option ℕ → Bool → List ℕ

@@ -1,5 +1,5 @@
 -- The texts that are printed of a run (docs/COMMANDS.md, "Printed texts").
-use Rattle.std.specs.Prelude.{ℕ, ◌+◌, ◌-◌, ◌/◌, ◌%◌, Bool, Option, None, Some, List, [], ◌∷◌, ◌++◌, map, take, length, replicate, codes, nat_eq, if◌then◌else◌, ◌==◌}
+use Rattle.std.specs.Prelude.{ℕ, ◌-◌, Bool, Option, None, Some, List, [], ◌∷◌, ◌++◌, map, take, length, replicate, codes, nat_eq, if◌then◌else◌, ◌==◌}
 use Rattle.std.specs.Borrow.{Bor}
 use Rattle.std.specs.List.{filter, flat_map, ends_with}
 use Rattle.std.specs.Fmt.{decimal}
@@ -12,24 +12,13 @@ use Rattle.outcome_fold.specs.declared.row.Row.{Row}
 use Rattle.outcome_fold.specs.declared.row.Counts.{Counts}
 use Rattle.outcome_fold.specs.Order.{text_cmp, route_cmp}
 use Rattle.outcome_fold.specs.Answers.{row_fails, timed_rows, counts_of}
+use Rattle.sub_number.specs.Seconds.{printed_seconds}
 
 -- the end of a line
 abbrev pub newline : List ℕ
 newline = 10 ∷ []
 
 -- Seconds with three places.
-
--- in thousandths of a second, halves up
-abbrev pub millis_of : ℕ → ℕ
-millis_of nanos = (nanos + 500000) / 1000000
-
--- a number below 1000 in three digits
-abbrev pub three_digits : ℕ → List ℕ
-three_digits n = (48 + n / 100) ∷ (48 + n / 10 % 10) ∷ (48 + n % 10) ∷ []
-
--- the time in seconds with three places
-abbrev pub printed_seconds : ℕ → List ℕ
-printed_seconds nanos = decimal (millis_of nanos / 1000) ++ codes "." ++ three_digits (millis_of nanos % 1000)
 
 -- The summary.
 
@@ -47,8 +36,8 @@ abbrev pub named_count : List ℕ → ℕ → List ℕ
 named_count name count = if count == 0 then [] else name ++ decimal count
 
 -- the line with how many tests ran, and how long they took
-abbrev pub first_line : Counts → List ℕ
-first_line counts = codes "Ran " ++ decimal counts.total ++ codes " tests" ++ took counts.nanos ++ newline
+abbrev pub tests_and_time_line : Counts → List ℕ
+tests_and_time_line counts = codes "Ran " ++ decimal counts.total ++ codes " tests" ++ took counts.nanos ++ newline
 
 -- the line with the verdict, the run's number and how many failed and were skipped
 abbrev pub second_line : Counts → ℕ → List ℕ
@@ -58,11 +47,11 @@ second_line counts run =
 
 -- the two lines of a run of this number, of which these are the counts
 abbrev pub summary_lines : Counts → ℕ → List ℕ
-summary_lines counts run = first_line counts ++ second_line counts run
+summary_lines counts run = tests_and_time_line counts ++ second_line counts run
 
 -- the last two lines of a report on these rows
-abbrev pub summary_of : List Row → ℕ → List (List ℕ) → List ℕ
-summary_of rows run filter_tags = summary_lines (counts_of filter_tags rows) run
+abbrev pub summary_text : List Row → ℕ → List (List ℕ) → List ℕ
+summary_text rows run filter_tags = summary_lines (counts_of filter_tags rows) run
 
 -- The report.
 
@@ -98,7 +87,7 @@ part_bytes part = part.now
 
 -- each row that fails, in the order of the rows, and then the summary
 abbrev pub report_of : List Row → ℕ → List (List ℕ) → List ℕ
-report_of rows run filter_tags = flat_map failure_of (filter row_fails rows) ++ summary_of rows run filter_tags
+report_of rows run filter_tags = flat_map failure_of (filter row_fails rows) ++ summary_text rows run filter_tags
 
 -- The failing ids.
 

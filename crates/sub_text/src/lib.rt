@@ -8,14 +8,14 @@
 //!
 //! - `report`, `summary`: the report of a run, and how it ends
 //! - `failing_ids`, `slowest`, `stats`: failing ids, slowest tests, and counts
-//! - `listing`: the line of an id in the listing of a stream
+//! - `list_line`: the line of an id in the listing of a stream
 //! - `seconds`: times in seconds
 //! - `laws`: the summary of lanes does not tell in which order they come
 #![tactic(auto)]
 
 mod failing_ids;
 mod laws;
-mod listing;
+mod list_line;
 mod report;
 mod seconds;
 mod slowest;
@@ -24,7 +24,7 @@ mod summary;
 
 pub use failing_ids::failing_text;
 pub use laws::texts_are_of_lanes_in_turn;
-pub use listing::ls_line;
+pub use list_line::ls_line;
 pub use report::{failure_parts, report_text};
 pub use seconds::seconds_text;
 pub use slowest::slowest_text;

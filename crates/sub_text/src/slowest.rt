@@ -3,7 +3,8 @@
 ghost use Rattle.std.specs.Prelude.{◌≡◌, ◌++◌, map, take, length, OnOk, OnErr, IfOk};
 ghost use Rattle.std.specs.List.{flat_map};
 ghost use Rattle.outcome_fold.specs.Answers.{timed_rows};
-ghost use Rattle.sub_text.specs.Texts.{printed_seconds, timed_test, slow_cmp, slowest_first, first_ones, slow_line, in_ten_places, slowest_of};
+ghost use Rattle.sub_number.specs.Seconds.{printed_seconds};
+ghost use Rattle.sub_text.specs.Texts.{timed_test, slow_cmp, slowest_first, first_ones, slow_line, in_ten_places, slowest_of};
 
 use crate::seconds::seconds_text;
 use outcome_fold::{Ended, Row, Rows};

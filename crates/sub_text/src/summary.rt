@@ -1,7 +1,7 @@
 //! The summary of a run.
 
 ghost use Rattle.std.specs.Prelude.{◌≡◌, ◌++◌, take, length, OnOk, OnErr};
-ghost use Rattle.sub_text.specs.Texts.{took, verdict_word, named_count, first_line, second_line, summary_lines, summary_of};
+ghost use Rattle.sub_text.specs.Texts.{took, verdict_word, named_count, tests_and_time_line, second_line, summary_lines, summary_text};
 
 use crate::seconds::seconds_text;
 use itoa::Buffer;
@@ -42,7 +42,7 @@ fn write_counted(name: &[u8], count: u64, text: &mut Vec<u8>) -> Result<(), NoMe
 }
 
 fn write_first_line(counts: Counts, text: &mut Vec<u8>) -> Result<(), NoMemory>
-    ensures ok { OnOk result (text.new.items ≡ text.old.items ++ first_line counts) }
+    ensures ok { OnOk result (text.new.items ≡ text.old.items ++ tests_and_time_line counts) }
     ensures kept { take (length text.old.items) text.new.items ≡ text.old.items }
 {
     text.extend_from_slice(b"Ran ")?;
@@ -74,7 +74,7 @@ pub fn summary_text(
     filter_tags: &Tags,
     out: &mut Vec<u8>,
 ) -> Result<(), NoMemory>
-    ensures ok { OnOk result (out.new.items ≡ out.old.items ++ summary_of rows.now run filter_tags.now) }
+    ensures ok { OnOk result (out.new.items ≡ out.old.items ++ summary_text rows.now run filter_tags.now) }
     ensures err { OnErr result (out.new.items ≡ out.old.items) }
 {
     summary_from(rows.counts(filter_tags), run, out)

@@ -16,11 +16,11 @@ use Rattle.testr_conf.specs.Settings.{Settings}
 use Rattle.suite_causes.specs.Analysis.{asked_for, AreCauseLines, AreSearched, UsesNoBroken}
 use Rattle.suite_causes.specs.Lines.{cause_line}
 use Rattle.suite_causes.specs.Probing.{fails_in}
-use Rattle.suite_causes.specs.Searching.{Ids, HasAsked, SearchesSo}
+use Rattle.suite_causes.specs.Searching.{TestIds, HasAsked, SearchesSo}
 use Rattle.suite_causes.specs.Suspects.{candidates_of}
 use Rattle.suite_causes.specs.declared.suspects.Suspect.{Suspect}
 
-pub asked_is : (settings : Settings) (candidates : Ids) (test : List ℕ) (asked : List Asked) (s t : Spawning) (found : Found) (later : List Output) → (has : HasAsked settings candidates test asked s t) → Licenses asked (length candidates) found
+pub asked_is : (settings : Settings) (candidates : TestIds) (test : List ℕ) (asked : List Asked) (s t : Spawning) (found : Found) (later : List Output) → (has : HasAsked settings candidates test asked s t) → Licenses asked (length candidates) found
     → asked_for test candidates (has.outputs ++ later) ≡ asked
 asked_is settings candidates test asked s t found later has licensed =
     ap (asked_of (length candidates)) (map-append (fails_in test) has.outputs later ∙ ap (λ l. l ++ map (fails_in test) later) (sym has.answers))
@@ -29,23 +29,23 @@ asked_is settings candidates test asked s t found later has licensed =
 pub one_text : (events : List Event) (suspects : List Suspect) (outputs : List Output) (text other : List ℕ) → AreCauseLines events suspects outputs text → AreCauseLines events suspects outputs other → text ≡ other
 one_text events [] outputs text other lines also = lines ∙ sym also
 one_text events (one ∷ suspects) outputs text other lines also =
-    let candidates : Ids = candidates_of one.id one.lane events in
+    let candidates : TestIds = candidates_of one.id one.lane events in
     let asked : List Asked = asked_for one.id candidates outputs in
     let same : lines.found ≡ also.found = one_verdict (length candidates) asked lines.found also.found (behind_order (length candidates) [] (map (fails_in one.id) outputs) tt) lines.licensed also.licensed in
     let rest : lines.more ≡ also.more = one_text events suspects (drop (length asked) outputs) lines.more also.more lines.rest also.rest in
     lines.text_is ∙ ap₂ (λ found more. cause_line one.id candidates found ++ more) same rest ∙ sym also.text_is
 
 -- as many outputs were taken as probes asked
-as_many : (settings : Settings) (candidates : Ids) (test : List ℕ) (asked : List Asked) (s t : Spawning) → (has : HasAsked settings candidates test asked s t) → length has.outputs ≡ length asked
+as_many : (settings : Settings) (candidates : TestIds) (test : List ℕ) (asked : List Asked) (s t : Spawning) → (has : HasAsked settings candidates test asked s t) → length has.outputs ≡ length asked
 as_many settings candidates test asked s t has =
     sym (length-map has.outputs (fails_in test)) ∙ ap length (sym has.answers) ∙ length-map asked (λ (one : Asked). one.failed)
 
 -- a search asked what the outputs say from its beginning on
-whole_search : (settings : Settings) (candidates : Ids) (test : List ℕ) (found : Found) (s t : Spawning) → (so : SearchesSo settings candidates test found s t) → asked_for test candidates s.outputs ≡ so.asked
+whole_search : (settings : Settings) (candidates : TestIds) (test : List ℕ) (found : Found) (s t : Spawning) → (so : SearchesSo settings candidates test found s t) → asked_for test candidates s.outputs ≡ so.asked
 whole_search settings candidates test found s t so =
     ap (asked_for test candidates) so.has.taken ∙ asked_is settings candidates test so.asked s t found t.outputs so.has so.licensed
 
-pub none_broken : (settings : Settings) (candidates : Ids) (test : List ℕ) (found : Found) (s t : Spawning) → SearchesSo settings candidates test found s t → UsesNoBroken test candidates s.outputs
+pub none_broken : (settings : Settings) (candidates : TestIds) (test : List ℕ) (found : Found) (s t : Spawning) → SearchesSo settings candidates test found s t → UsesNoBroken test candidates s.outputs
 none_broken settings candidates test found s t so =
     let used : take (length (asked_for test candidates s.outputs)) s.outputs ≡ so.has.outputs =
     ap (λ (l : List Asked). take (length l) s.outputs) (whole_search settings candidates test found s t so)
@@ -56,7 +56,7 @@ none_broken settings candidates test found s t so =
 pub lines_searched : (settings : Settings) (events : List Event) (suspects : List Suspect) (text : List ℕ) (s t : Spawning) → AreSearched settings events suspects text s t → AreCauseLines events suspects s.outputs text
 lines_searched settings events [] text s t (same, none) = none
 lines_searched settings events (one ∷ suspects) text s t first =
-    let candidates : Ids = candidates_of one.id one.lane events in
+    let candidates : TestIds = candidates_of one.id one.lane events in
     let asked : List Asked = first.searched.asked in
     let has : HasAsked settings candidates one.id asked s first.between = first.searched.has in
     let same : asked_for one.id candidates s.outputs ≡ asked =

@@ -18,8 +18,8 @@ use Rattle.stream_reader.specs.Notes.{event_of, events_of}
 use Rattle.stream_reader.specs.Stream.{Held, GivesNote, IsSpent}
 use Rattle.stream_reader.specs.declared.note.Note.{Note}
 use Rattle.suite_plan.specs.Firsts.{firsts}
-use Rattle.suite_causes.specs.Ran.{all_ran, ran_on, AreRan, GathersNotes, HasGathered, HasFront, HasReadTo, TakesPiece, ReadsOn, HasReadWhole}
-use Rattle.suite_causes.specs.Searching.{Ids}
+use Rattle.suite_causes.specs.Ran.{all_ran, ran_on, AreRan, GathersRanIds, HasRanIds, HasRanIdsOfFront, HasRanIdsTo, TakesRanIdsPiece, ReadsRanIdsOn, HasRanIdsOfRun}
+use Rattle.suite_causes.specs.Searching.{TestIds}
 use Rattle.suite_causes.specs.Suspects.{ran_id}
 use Rattle.suite_causes.specs.declared.ran_reader.RanReader.{RanReader}
 
@@ -35,23 +35,23 @@ ran_push lane events event =
     ∙ filter_map-append ran_id (of_lane lane events) (cond (is_of_lane lane event) (event ∷ []) [])
     ∙ ap (λ l. all_ran lane events ++ l) (of_one lane event (is_of_lane lane event))
 
-pub gathers_none : (lane : ℕ) (ids : Ids) (events : List Event) (event : Event) → ran_on lane event ≡ None → ids ≡ all_ran lane events → ids ≡ all_ran lane (events ++ event ∷ [])
+pub gathers_none : (lane : ℕ) (ids : TestIds) (events : List Event) (event : Event) → ran_on lane event ≡ None → ids ≡ all_ran lane events → ids ≡ all_ran lane (events ++ event ∷ [])
 gathers_none lane ids events event none is =
     is ∙ sym (append-nil (all_ran lane events)) ∙ ap (λ o. all_ran lane events ++ cons_option o []) (sym none) ∙ sym (ran_push lane events event)
 
-pub gathers_one : (lane : ℕ) (ids new : Ids) (events : List Event) (event : Event) (id : List ℕ) → ran_on lane event ≡ Some id → new ≡ ids ++ id ∷ [] → ids ≡ all_ran lane events → new ≡ all_ran lane (events ++ event ∷ [])
+pub gathers_one : (lane : ℕ) (ids new : TestIds) (events : List Event) (event : Event) (id : List ℕ) → ran_on lane event ≡ Some id → new ≡ ids ++ id ∷ [] → ids ≡ all_ran lane events → new ≡ all_ran lane (events ++ event ∷ [])
 gathers_one lane ids new events event id one pushed is =
     pushed ∙ ap (λ l. l ++ id ∷ []) is ∙ ap (λ o. all_ran lane events ++ cons_option o []) (sym one) ∙ sym (ran_push lane events event)
 
 -- ---- all notes
 
-pub gathered_none : (lane : ℕ) (notes : List Note) (held : Held) (ids : Ids) → ids ≡ all_ran lane (events_of notes) → GathersNotes lane notes held held ids
+pub gathered_none : (lane : ℕ) (notes : List Note) (held : Held) (ids : TestIds) → ids ≡ all_ran lane (events_of notes) → GathersRanIds lane notes held held ids
 gathered_none lane notes held ids is = record { all = notes; given = notes_none held notes; ids_are = is }
 
-pub gathered_more : (lane : ℕ) (notes : List Note) (before held after : Held) (old new : Ids) (next : Note)
-    → GathersNotes lane notes before held old → GivesNote held next after → after.ended ≡ held.ended
+pub gathered_more : (lane : ℕ) (notes : List Note) (before held after : Held) (old new : TestIds) (next : Note)
+    → GathersRanIds lane notes before held old → GivesNote held next after → after.ended ≡ held.ended
     → ((events : List Event) → old ≡ all_ran lane events → new ≡ all_ran lane (events ++ event_of next ∷ []))
-    → GathersNotes lane notes before after new
+    → GathersRanIds lane notes before after new
 gathered_more lane notes before held after old new next so_far gives same step = record {
   all = so_far.all ++ next ∷ [];
   given = notes_more before held after notes so_far.all next so_far.given gives same;
@@ -61,9 +61,9 @@ gathered_more lane notes before held after old new next so_far gives same step =
 -- ---- a run
 
 pub piece_gathered : {T E : Type 0} (r : Result T E) (lane : ℕ) (bytes piece : List ℕ) (ran new : RanReader) (held : Held)
-    → AreBytes piece → HasGathered lane ran bytes → held ≡ record { bytes = ran.reader.bytes ++ piece; ended = false } → new.lane ≡ ran.lane
-    → ((notes : List Note) → ran.ids ≡ all_ran ran.lane (events_of notes) → OnOk r (GathersNotes ran.lane notes held new.reader new.ids))
-    → OnOk r (HasGathered lane new (bytes ++ piece))
+    → AreBytes piece → HasRanIds lane ran bytes → held ≡ record { bytes = ran.reader.bytes ++ piece; ended = false } → new.lane ≡ ran.lane
+    → ((notes : List Note) → ran.ids ≡ all_ran ran.lane (events_of notes) → OnOk r (GathersRanIds ran.lane notes held new.reader new.ids))
+    → OnOk r (HasRanIds lane new (bytes ++ piece))
 piece_gathered (Err e) lane bytes piece ran new held are has held-is same step = tt
 piece_gathered (Ok x) lane bytes piece ran new held are has held-is same step =
     let gathers = step has.notes (subst (λ n. ran.ids ≡ all_ran n (events_of has.notes)) (sym has.lane_is) has.ids_are) in
@@ -74,9 +74,9 @@ piece_gathered (Ok x) lane bytes piece ran new held are has held-is same step =
       ids_are = subst (λ n. new.ids ≡ all_ran n (events_of gathers.all)) has.lane_is gathers.ids_are;
     }
 
-pub ids_at_end : {E : Type 0} (r : Result Ids E) (lane : ℕ) (bytes : List ℕ) (ran : RanReader) (held after : Held) (ids : Ids)
-    → HasGathered lane ran bytes → held ≡ record { bytes = ran.reader.bytes; ended = true }
-    → ((notes : List Note) → ran.ids ≡ all_ran ran.lane (events_of notes) → GathersNotes ran.lane notes held after ids)
+pub ids_at_end : {E : Type 0} (r : Result TestIds E) (lane : ℕ) (bytes : List ℕ) (ran : RanReader) (held after : Held) (ids : TestIds)
+    → HasRanIds lane ran bytes → held ≡ record { bytes = ran.reader.bytes; ended = true }
+    → ((notes : List Note) → ran.ids ≡ all_ran ran.lane (events_of notes) → GathersRanIds ran.lane notes held after ids)
     → IsSpent after.ended after.bytes → IfOk r (λ list. list ≡ firsts ids) → IfOk r (AreRan lane bytes)
 ids_at_end (Err e) lane bytes ran held after ids has held-is step spent close = tt
 ids_at_end (Ok list) lane bytes ran held after ids has held-is step spent close =
@@ -91,25 +91,25 @@ ids_at_end (Ok list) lane bytes ran held after ids has held-is step spent close 
 -- ---- a run of a folder, piece by piece
 
 -- nothing was read of a run that there is
-pub read_none : (state : Option Folder) (kinds : List Bool) (number lane place : ℕ) (ran : RanReader) → place ≡ 0 → number < length kinds → HasGathered lane ran [] → IfSome state (FitsFolder kinds) → IfSome state (HasReadTo number lane place ran)
+pub read_none : (state : Option Folder) (kinds : List Bool) (number lane place : ℕ) (ran : RanReader) → place ≡ 0 → number < length kinds → HasRanIds lane ran [] → IfSome state (FitsFolder kinds) → IfSome state (HasRanIdsTo number lane place ran)
 read_none None kinds number lane place ran zero known fresh fits = tt
 read_none (Some s) kinds number lane place ran zero known fresh fits = there (run_at s.disk.published number) (taken_before s.disk.published kinds fits.kinds_are number known)
   where
-    there : (o : Option Run) → IsSome o → IsSomeAnd o (HasFront lane place ran)
+    there : (o : Option Run) → IsSome o → IsSomeAnd o (HasRanIdsOfFront lane place ran)
     there None is = cc
-    there (Some r) is = (omega (arith, zero), subst (λ (n : ℕ). HasGathered lane ran (take n r.bytes)) (sym zero) fresh)
+    there (Some r) is = (omega (arith, zero), subst (λ (n : ℕ). HasRanIds lane ran (take n r.bytes)) (sym zero) fresh)
 
-module _ (lane place room count : ℕ) (old new : RanReader) (r : Run) (front : HasFront lane place old r) (more : TakesPiece lane place room count old new r) where
-  front_more : (next : ℕ) → next ≡ place + room → room ≤ count → HasFront lane next new r
+module _ (lane place room count : ℕ) (old new : RanReader) (r : Run) (front : HasRanIdsOfFront lane place old r) (more : TakesRanIdsPiece lane place room count old new r) where
+  front_more : (next : ℕ) → next ≡ place + room → room ≤ count → HasRanIdsOfFront lane next new r
   front_more next is full = (
     omega (arith, is, full, more.size, length-take room (drop place r.bytes), length-drop place r.bytes, front.0),
-    subst (HasGathered lane new) (sym (take-add place room r.bytes) ∙ ap (λ (n : ℕ). take n r.bytes) (sym is)) (more.read (take place r.bytes) front.1),
+    subst (HasRanIds lane new) (sym (take-add place room r.bytes) ∙ ap (λ (n : ℕ). take n r.bytes) (sym is)) (more.read (take place r.bytes) front.1),
   )
 
-  front_whole : count < room → HasGathered lane new r.bytes
+  front_whole : count < room → HasRanIds lane new r.bytes
   front_whole less =
       let rest : take room (drop place r.bytes) ≡ drop place r.bytes = take_all room (drop place r.bytes) (omega (arith, less, more.size, length-take room (drop place r.bytes), length-drop place r.bytes)) in
-      subst (HasGathered lane new) (ap (λ (l : List ℕ). take place r.bytes ++ l) rest ∙ take-append-drop place r.bytes) (more.read (take place r.bytes) front.1)
+      subst (HasRanIds lane new) (ap (λ (l : List ℕ). take place r.bytes ++ l) rest ∙ take-append-drop place r.bytes) (more.read (take place r.bytes) front.1)
 
 some_both : {A : Type 0} (o : Option A) (P Q R : A → Type 0) → IsSomeAnd o P → IsSomeAnd o Q → ((a : A) → P a → Q a → R a) → IsSomeAnd o R
 some_both None P Q R p q each = p
@@ -120,18 +120,18 @@ if_both None P Q R p q each = tt
 if_both (Some a) P Q R p q each = each a p q
 
 module _ (first before : Option Folder) (number lane place room count : ℕ) (old new : RanReader)
-    (read : IfSome first (HasReadTo number lane place old)) (same : Goes first before Stays) (more : IfSome before (ReadsOn number lane place room count old new)) where
-  more_of : IfSome first (ReadsOn number lane place room count old new)
-  more_of = subst (λ (o : Option Folder). IfSome o (ReadsOn number lane place room count old new)) (same_state first before same) more
+    (read : IfSome first (HasRanIdsTo number lane place old)) (same : Goes first before Stays) (more : IfSome before (ReadsRanIdsOn number lane place room count old new)) where
+  more_of : IfSome first (ReadsRanIdsOn number lane place room count old new)
+  more_of = subst (λ (o : Option Folder). IfSome o (ReadsRanIdsOn number lane place room count old new)) (same_state first before same) more
 
   -- one piece more
-  pub read_on : (next : ℕ) → next ≡ place + room → room ≤ count → IfSome first (HasReadTo number lane next new)
+  pub read_on : (next : ℕ) → next ≡ place + room → room ≤ count → IfSome first (HasRanIdsTo number lane next new)
   read_on next is full =
-      if_both first (HasReadTo number lane place old) (ReadsOn number lane place room count old new) (HasReadTo number lane next new) read more_of
-      (λ s p q. some_both (run_at s.disk.published number) (HasFront lane place old) (TakesPiece lane place room count old new) (HasFront lane next new) p q (λ r front takes. front_more lane place room count old new r front takes next is full))
+      if_both first (HasRanIdsTo number lane place old) (ReadsRanIdsOn number lane place room count old new) (HasRanIdsTo number lane next new) read more_of
+      (λ s p q. some_both (run_at s.disk.published number) (HasRanIdsOfFront lane place old) (TakesRanIdsPiece lane place room count old new) (HasRanIdsOfFront lane next new) p q (λ r front takes. front_more lane place room count old new r front takes next is full))
 
   -- the last piece
-  pub read_last : count < room → IfSome first (HasReadWhole number lane new)
+  pub read_last : count < room → IfSome first (HasRanIdsOfRun number lane new)
   read_last less =
-      if_both first (HasReadTo number lane place old) (ReadsOn number lane place room count old new) (HasReadWhole number lane new) read more_of
-      (λ s p q. some_both (run_at s.disk.published number) (HasFront lane place old) (TakesPiece lane place room count old new) (λ r. HasGathered lane new r.bytes) p q (λ r front takes. front_whole lane place room count old new r front takes less))
+      if_both first (HasRanIdsTo number lane place old) (ReadsRanIdsOn number lane place room count old new) (HasRanIdsOfRun number lane new) read more_of
+      (λ s p q. some_both (run_at s.disk.published number) (HasRanIdsOfFront lane place old) (TakesRanIdsPiece lane place room count old new) (λ r. HasRanIds lane new r.bytes) p q (λ r front takes. front_whole lane place room count old new r front takes less))

@@ -11,7 +11,7 @@ use Rattle.edge_io.specs.Seen.{Seen}
 use Rattle.edge_io.specs.Spawners.{Spawning}
 use Rattle.edge_io.specs.Steps.{Goes}
 use Rattle.isolation_bisect.specs.Orders.{next_probe, AskedInOrder}
-use Rattle.isolation_bisect.specs.Probes.{IsWithin, ids_of}
+use Rattle.isolation_bisect.specs.Probes.{IsWithin, probe_ids}
 use Rattle.isolation_bisect.specs.Verdicts.{Licenses}
 use Rattle.isolation_bisect.specs.declared.found.Found.{Found}
 use Rattle.isolation_bisect.specs.declared.found.Found.TheVariants as found
@@ -21,14 +21,14 @@ use Rattle.isolation_bisect.specs.declared.probe.Probe.TheVariants.{Alone, Span}
 use Rattle.suite_plan.specs.Children.{IsBroken}
 use Rattle.testr_conf.specs.Settings.{Settings}
 use Rattle.suite_causes.specs.Probing.{fails_in, HasAnswer}
-use Rattle.suite_causes.specs.Searching.{Ids, IsAmong, probe_job, StartsProbe, HasProbeCause, search_failed, HasAsked, SearchesSo, StopsSearch, Searches}
-use Rattle.suite_causes.specs.declared.searching.SearchFault.{SearchFault}
-use Rattle.suite_causes.specs.declared.searching.SearchFault.TheVariants.{Spawn, Child, NoMemory}
+use Rattle.suite_causes.specs.Searching.{TestIds, IsAmong, probe_job, StartsProbe, HasProbeCause, search_failed, HasAsked, SearchesSo, StopsSearch, Searches}
+use Rattle.suite_causes.specs.declared.cause_search.SearchFault.{SearchFault}
+use Rattle.suite_causes.specs.declared.cause_search.SearchFault.TheVariants.{Spawn, Child, NoMemory}
 
 -- ---- ids
 
 -- what a probe runs of the first of some ids, it runs of all of them
-pub first_ids : (ids : Ids) (count : ℕ) (test : List ℕ) (probe : Probe) → IsWithin count probe → ids_of ids probe test ≡ ids_of (take count ids) probe test
+pub first_ids : (ids : TestIds) (count : ℕ) (test : List ℕ) (probe : Probe) → IsWithin count probe → probe_ids ids probe test ≡ probe_ids (take count ids) probe test
 first_ids ids count test Alone within = refl
 first_ids ids count test (Span from to) within =
     let some : from < to = within.0 in
@@ -38,13 +38,13 @@ first_ids ids count test (Span from to) within =
     ap (λ l. l ++ test ∷ []) (sym (take-take (to - from) (count - from) (drop from ids) (omega arith)) ∙ ap (take (to - from)) (sym behind))
 
 -- so it is of a probe that was started, and of one that has no answer
-pub starts_first : (settings : Settings) (ids : Ids) (count : ℕ) (test : List ℕ) (probe : Probe) (failed : Bool) (a b : Option Spawning) → IsWithin count probe
-    → Goes a b (StartsProbe settings (ids_of ids probe test) (HasAnswer test failed)) → Goes a b (StartsProbe settings (ids_of (take count ids) probe test) (HasAnswer test failed))
-starts_first settings ids count test probe failed a b within starts = subst (λ (some : Ids). Goes a b (StartsProbe settings some (HasAnswer test failed))) (first_ids ids count test probe within) starts
+pub starts_first : (settings : Settings) (ids : TestIds) (count : ℕ) (test : List ℕ) (probe : Probe) (failed : Bool) (a b : Option Spawning) → IsWithin count probe
+    → Goes a b (StartsProbe settings (probe_ids ids probe test) (HasAnswer test failed)) → Goes a b (StartsProbe settings (probe_ids (take count ids) probe test) (HasAnswer test failed))
+starts_first settings ids count test probe failed a b within starts = subst (λ (some : TestIds). Goes a b (StartsProbe settings some (HasAnswer test failed))) (first_ids ids count test probe within) starts
 
-pub cause_first : (settings : Settings) (ids : Ids) (count : ℕ) (test : List ℕ) (probe : Probe) (fault : SearchFault) (a b : Option Spawning) → IsWithin count probe
-    → Goes a b (HasProbeCause settings (ids_of ids probe test) fault) → Goes a b (HasProbeCause settings (ids_of (take count ids) probe test) fault)
-cause_first settings ids count test probe fault a b within cause = subst (λ (some : Ids). Goes a b (HasProbeCause settings some fault)) (first_ids ids count test probe within) cause
+pub cause_first : (settings : Settings) (ids : TestIds) (count : ℕ) (test : List ℕ) (probe : Probe) (fault : SearchFault) (a b : Option Spawning) → IsWithin count probe
+    → Goes a b (HasProbeCause settings (probe_ids ids probe test) fault) → Goes a b (HasProbeCause settings (probe_ids (take count ids) probe test) fault)
+cause_first settings ids count test probe fault a b within cause = subst (λ (some : TestIds). Goes a b (HasProbeCause settings some fault)) (first_ids ids count test probe within) cause
 
 all_more : {X : Type 0} (P : X → Type 0) (xs : List X) (x : X) → AllByRecursion P xs → P x → AllByRecursion P (xs ++ x ∷ [])
 all_more P [] x all one = (one, tt)
@@ -56,27 +56,27 @@ asked_by next probe P is holds = let here : IfSome (Some probe) P = subst (λ (o
 
 -- ---- probes behind others
 
-module _ (settings : Settings) (candidates : Ids) (test : List ℕ) where
+module _ (settings : Settings) (candidates : TestIds) (test : List ℕ) where
   pub asked_none : (state : Option Spawning) → Goes state state (HasAsked settings candidates test [])
   asked_none None = tt
   asked_none (Some s) = record { in_order = tt; jobs = []; jobs_are = refl; started = sym (append-nil s.started); outputs = []; taken = refl; ended = tt; answers = refl }
 
   pub asked_more : (asked : List Asked) (probe : Probe) (failed : Bool) (a b c : Option Spawning) → AskedInOrder (asked ++ record { probe = probe; failed = failed } ∷ []) (length candidates)
-      → Goes a b (HasAsked settings candidates test asked) → Goes b c (StartsProbe settings (ids_of candidates probe test) (HasAnswer test failed))
+      → Goes a b (HasAsked settings candidates test asked) → Goes b c (StartsProbe settings (probe_ids candidates probe test) (HasAnswer test failed))
       → Goes a c (HasAsked settings candidates test (asked ++ record { probe = probe; failed = failed } ∷ []))
   asked_more asked probe failed a b c order first second =
-      goes_then a b c (HasAsked settings candidates test asked) (StartsProbe settings (ids_of candidates probe test) (HasAnswer test failed)) (HasAsked settings candidates test (asked ++ one ∷ [])) first second here
+      goes_then a b c (HasAsked settings candidates test asked) (StartsProbe settings (probe_ids candidates probe test) (HasAnswer test failed)) (HasAsked settings candidates test (asked ++ one ∷ [])) first second here
     where
       one : Asked
       one = record { probe = probe; failed = failed }
 
-      here : (s m t : Spawning) → HasAsked settings candidates test asked s m → StartsProbe settings (ids_of candidates probe test) (HasAnswer test failed) m t → HasAsked settings candidates test (asked ++ record { probe = probe; failed = failed } ∷ []) s t
+      here : (s m t : Spawning) → HasAsked settings candidates test asked s m → StartsProbe settings (probe_ids candidates probe test) (HasAnswer test failed) m t → HasAsked settings candidates test (asked ++ record { probe = probe; failed = failed } ∷ []) s t
       here s m t has starts = record {
         in_order = order;
         jobs = has.jobs ++ starts.job ∷ [];
         jobs_are =
-            map-append (λ (one : Asked). probe_job settings (ids_of candidates one.probe test)) asked (record { probe = probe; failed = failed } ∷ [])
-            ∙ ap (λ l. l ++ probe_job settings (ids_of candidates probe test) ∷ []) has.jobs_are
+            map-append (λ (one : Asked). probe_job settings (probe_ids candidates one.probe test)) asked (record { probe = probe; failed = failed } ∷ [])
+            ∙ ap (λ l. l ++ probe_job settings (probe_ids candidates probe test) ∷ []) has.jobs_are
             ∙ ap (λ r. map Ok has.jobs ++ r ∷ []) starts.job_is
             ∙ sym (map-append Ok has.jobs (starts.job ∷ []));
         started = starts.started.jobs ∙ ap (λ l. l ++ starts.job ∷ []) has.started ∙ append_assoc s.started has.jobs (starts.job ∷ []);
@@ -92,9 +92,9 @@ module _ (settings : Settings) (candidates : Ids) (test : List ℕ) where
 
   -- the next one has no answer
   pub stops_behind : (asked : List Asked) (probe : Probe) (fault : SearchFault) (a b c : Option Spawning) → next_probe asked (length candidates) ≡ Some probe
-      → Goes a b (HasAsked settings candidates test asked) → Goes b c (HasProbeCause settings (ids_of candidates probe test) fault) → Goes a c (StopsSearch settings candidates test fault)
+      → Goes a b (HasAsked settings candidates test asked) → Goes b c (HasProbeCause settings (probe_ids candidates probe test) fault) → Goes a c (StopsSearch settings candidates test fault)
   stops_behind asked probe fault a b c next first second =
-      goes_then a b c (HasAsked settings candidates test asked) (HasProbeCause settings (ids_of candidates probe test) fault) (StopsSearch settings candidates test fault) first second
+      goes_then a b c (HasAsked settings candidates test asked) (HasProbeCause settings (probe_ids candidates probe test) fault) (StopsSearch settings candidates test fault) first second
       (λ s m t has cause. record { asked = asked; between = m; has = has; probe = probe; next = next; cause = cause })
 
   -- a verdict
@@ -119,7 +119,7 @@ module _ (settings : Settings) (candidates : Ids) (test : List ℕ) where
     count = subst (λ n. RisesExactlyIf n after.faults (search_failed {T = Found} (Err fault))) same (subst (RisesExactlyIf count after.faults) (same_failed fault) rises);
   })
 
-module _ (settings : Settings) (candidates : Ids) (test : List ℕ) where
+module _ (settings : Settings) (candidates : TestIds) (test : List ℕ) where
   pub search_found : (asked : List Asked) (verdict : Found) (before after : Seen Spawning) → Goes before.told after.told (HasAsked settings candidates test asked) → Licenses asked (length candidates) verdict → IsAmong candidates verdict → after.faults ≡ before.faults → Searches settings candidates test before after (Ok verdict)
   search_found asked verdict before after has licensed among same = record {
     found = verdict_behind settings candidates test asked verdict before.told after.told licensed has;
@@ -130,7 +130,7 @@ module _ (settings : Settings) (candidates : Ids) (test : List ℕ) where
 
 -- ---- a cause is one of the candidates
 
-pub cause_among : (candidates : Ids) (asked : List Asked) (verdict : Found) → Licenses asked (length candidates) verdict → All (λ one. IsWithin (length candidates) one.probe) asked → IsAmong candidates verdict
+pub cause_among : (candidates : TestIds) (asked : List Asked) (verdict : Found) → Licenses asked (length candidates) verdict → All (λ one. IsWithin (length candidates) one.probe) asked → IsAmong candidates verdict
 cause_among candidates asked found.Alone was within = tt
 cause_among candidates asked found.NotSeen was within = tt
 cause_among candidates asked found.Several was within = tt
@@ -139,5 +139,5 @@ cause_among candidates asked (found.Cause cause) was within =
     let inside : cause + 1 ≤ length candidates = there.1 in
     omega arith
 
-pub length_first : (count : ℕ) (ids : Ids) → count ≤ length ids → length (take count ids) ≡ count
+pub length_first : (count : ℕ) (ids : TestIds) → count ≤ length ids → length (take count ids) ≡ count
 length_first count ids few = length-take-le count ids few

@@ -12,16 +12,16 @@ use Rattle.suite_plan.specs.Children.{IsBroken}
 use Rattle.testr_conf.specs.Settings.{Settings}
 use Rattle.suite_causes.specs.Lines.{cause_line}
 use Rattle.suite_causes.specs.Probing.{fails_in}
-use Rattle.suite_causes.specs.Searching.{Ids, IsAmong, SearchesSo}
+use Rattle.suite_causes.specs.Searching.{TestIds, IsAmong, SearchesSo}
 use Rattle.suite_causes.specs.Suspects.{candidates_of}
 use Rattle.suite_causes.specs.declared.suspects.Suspect.{Suspect}
 
 -- the probes of the test, where these outputs come, and as many as the search asks
-abbrev pub asked_for : (test : List ℕ) → (candidates : Ids) → List Output → List Asked
+abbrev pub asked_for : (test : List ℕ) → (candidates : TestIds) → List Output → List Asked
 asked_for test candidates outputs = asked_of (length candidates) (map (fails_in test) outputs)
 
 -- a verdict on the test that its answers license, and its line before the rest
-pub record HasLine (test : List ℕ) (candidates : Ids) (asked : List Asked) (Rest : List ℕ → Type 0) (text : List ℕ) : Type 0 where
+pub record HasLine (test : List ℕ) (candidates : TestIds) (asked : List Asked) (Rest : List ℕ → Type 0) (text : List ℕ) : Type 0 where
   pub found : Found
   pub licensed : Licenses asked (length candidates) found
   pub more : List ℕ
@@ -38,11 +38,11 @@ AreCauseLines events (one ∷ more) outputs text =
     HasLine one.id candidates asked (AreCauseLines events more (drop (length asked) outputs)) text
 
 -- the outputs that the search for the test uses can all be read to their ends, and be waited for
-abbrev pub UsesNoBroken : (test : List ℕ) → (candidates : Ids) → List Output → Type 0
+abbrev pub UsesNoBroken : (test : List ℕ) → (candidates : TestIds) → List Output → Type 0
 UsesNoBroken test candidates outputs = AllByRecursion (λ output. IsBroken output.finish → ⊥) (take (length (asked_for test candidates outputs)) outputs)
 
 -- a line of some verdict on the test, of which a cause is one of the candidates, before the rest
-pub record HasSomeLine (test : List ℕ) (candidates : Ids) (Rest : List ℕ → Type 0) (text : List ℕ) : Type 0 where
+pub record HasSomeLine (test : List ℕ) (candidates : TestIds) (Rest : List ℕ → Type 0) (text : List ℕ) : Type 0 where
   pub found : Found
   pub among : IsAmong candidates found
   pub more : List ℕ
@@ -55,7 +55,7 @@ HaveLines events [] text = text ≡ []
 HaveLines events (one ∷ more) text = HasSomeLine one.id (candidates_of one.id one.lane events) (HaveLines events more) text
 
 -- the test was searched among these candidates and came to a verdict, and its line stands before the rest
-pub record SearchesFirst (settings : Settings) (candidates : Ids) (test : List ℕ) (Rest : List ℕ → Spawning → Type 0) (text : List ℕ) (s : Spawning) : Type 0 where
+pub record SearchesFirst (settings : Settings) (candidates : TestIds) (test : List ℕ) (Rest : List ℕ → Spawning → Type 0) (text : List ℕ) (s : Spawning) : Type 0 where
   pub found : Found
   pub between : Spawning
   pub searched : SearchesSo settings candidates test found s between

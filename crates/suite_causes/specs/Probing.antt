@@ -8,8 +8,8 @@ use Rattle.outcome_fold.specs.Rows.{rows_of}
 use Rattle.outcome_fold.specs.declared.row.Row.{Row}
 use Rattle.suite_plan.specs.Children.{IsBroken}
 use Rattle.worker_mux.specs.Outputs.{events_asked}
-use Rattle.suite_causes.specs.declared.probing.ProbeFault.{ProbeFault}
-use Rattle.suite_causes.specs.declared.probing.ProbeFault.TheVariants.{Child, NoMemory}
+use Rattle.suite_causes.specs.declared.probe_run.ProbeFault.{ProbeFault}
+use Rattle.suite_causes.specs.declared.probe_run.ProbeFault.TheVariants.{Child, NoMemory}
 
 -- one of the rows that fail is of the test
 abbrev pub one_fails : (test : List ℕ) → List Row → Bool

@@ -9,7 +9,7 @@ use Rattle.packet_codec.specs.declared.event.Event.{Event}
 use Rattle.packet_codec.specs.declared.status.Status.{Status}
 use Rattle.packet_codec.specs.declared.status.Status.TheVariants.{Unset, Exists, InProgress, Success, UxSuccess, Skip, Fail, XFail}
 use Rattle.suite_plan.specs.Firsts.{firsts}
-use Rattle.suite_causes.specs.Searching.{Ids}
+use Rattle.suite_causes.specs.Searching.{TestIds}
 use Rattle.suite_causes.specs.declared.suspects.Suspect.{Suspect}
 
 -- the id is the one under which the end of a worker is told
@@ -39,7 +39,7 @@ abbrev pub ran_id : Event → Option (List ℕ)
 ran_id event = ran_where event.status event.id
 
 -- the ids of the lane's tests in the order in which they began to run, each once
-abbrev pub ran_ids : (lane : ℕ) → List Event → Ids
+abbrev pub ran_ids : (lane : ℕ) → List Event → TestIds
 ran_ids lane events = firsts (filter_map ran_id (of_lane lane events))
 
 -- the numbers of candidates have 32 bits
@@ -47,11 +47,11 @@ abbrev pub most_candidates : ℕ
 most_candidates = 4294967295
 
 -- how many of the ids stand before the test
-abbrev pub count_before : (test : List ℕ) → Ids → ℕ
+abbrev pub count_before : (test : List ℕ) → TestIds → ℕ
 count_before test ids = min most_candidates (prefix_len (λ id. not (pointwise nat_eq id test)) ids)
 
 -- the candidates of a test on a lane: those that began to run before it
-abbrev pub candidates_of : (test : List ℕ) → (lane : ℕ) → List Event → Ids
+abbrev pub candidates_of : (test : List ℕ) → (lane : ℕ) → List Event → TestIds
 candidates_of test lane events = take (count_before test (ran_ids lane events)) (ran_ids lane events)
 
 -- ---- what failed

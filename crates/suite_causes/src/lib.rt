@@ -5,26 +5,26 @@
 //!
 //! For want of memory a public call answers `NoMemory`, which comes for nothing else. What it did outside by then stands.
 //!
-//! - `probing`: the child of a probe, read to its end
-//! - `searching`: probes that are run, one after another
+//! - `probe_run`: the child of a probe, read to its end
+//! - `cause_search`: probes that are run, one after another
 //! - `line`: what is said of a test
 //! - `laws`: the outputs of the probes decide the searches and the lines
 //! - `suspects`: the tests that failed, and what stands before them
-//! - `ran`, `ran_reader`, `gathering`: the tests that began to run on a lane of a stored run
+//! - `ran_tests`, `ran_reader`, `lane_ids`: the tests that began to run on a lane of a stored run
 #![tactic(auto)]
 
-mod gathering;
+mod cause_search;
+mod lane_ids;
 mod laws;
 mod line;
-mod probing;
-mod ran;
+mod probe_run;
 mod ran_reader;
-mod searching;
+mod ran_tests;
 mod suspects;
 
+pub use cause_search::{SearchFault, can_hand_ids, search_cause};
 pub use laws::outputs_decide_causes;
 pub use line::{CauseLine, cause_line};
-pub use probing::{ProbeFault, read_probe};
-pub use ran::ran_ids;
-pub use searching::{SearchFault, can_hand_ids, search};
+pub use probe_run::{ProbeFault, read_probe};
+pub use ran_tests::ran_ids;
 pub use suspects::{Suspect, count_before, suspects_of};

@@ -1,7 +1,7 @@
 //! The line that tells what a search found.
 
 ghost use Rattle.std.specs.Prelude.{◌≡◌, ◌≤◌, length, take};
-ghost use Rattle.suite_causes.specs.Lines.{cause_line, cause_of, line_bytes, said_of};
+ghost use Rattle.suite_causes.specs.Lines.{cause_line, cause_of, line_bytes, finding_text};
 ghost use Rattle.suite_causes.specs.Searching.{IsAmong};
 
 use isolation_bisect::Found;
@@ -33,7 +33,7 @@ pub fn cause_line<'a>(test: &'a Text, ids: &'a IdList, count: u32, found: Found)
 
 // What is said behind the id.
 fn said_of(found: Found) -> &'static [u8]
-    ensures { result.now ≡ said_of found }
+    ensures { result.now ≡ finding_text found }
 {
     match found {
         Found::Alone => b": fails alone",

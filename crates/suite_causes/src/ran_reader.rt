@@ -2,11 +2,11 @@
 
 ghost use Rattle.std.specs.Prelude.{◌≡◌, false};
 
-use crate::gathering::gather_notes;
+use crate::lane_ids::gather_notes;
 use std::alloc::Global;
 use stream_reader::Reader;
 use sub_number::{IdList, NoMemory};
-use suite_plan::firsts;
+use suite_plan::first_of_each;
 
 /// A run of which the ids of the tests are gathered that began to run on one lane, while it is read piece by piece.
 #[derive(Drop)]
@@ -19,12 +19,12 @@ pub(crate) struct RanReader {
 
 impl RanReader {
     ghost use Rattle.std.specs.Prelude.{◌≤◌, ◌++◌, [], ℕ, List, length, IfOk, OnOk};
-    ghost use Rattle.suite_causes.specs.Ran.{AreRan, HasGathered, HasRoom};
+    ghost use Rattle.suite_causes.specs.Ran.{AreRan, HasRanIds, HasRoomForRanIds};
 
     /// A run of which nothing was read.
     pub(crate) fn new(alloc: Global, lane: u32) -> Result<Self, NoMemory>
-        ensures has { IfOk result (λ ran. HasGathered lane ran []) }
-        ensures room { IfOk result HasRoom }
+        ensures has { IfOk result (λ ran. HasRanIds lane ran []) }
+        ensures room { IfOk result HasRoomForRanIds }
     {
         let reader = Reader::new(alloc)?;
         Ok(RanReader {
@@ -38,10 +38,10 @@ impl RanReader {
     ///
     /// After `NoMemory` nothing is known of the ids.
     pub(crate) fn feed(&mut self, piece: &[u8]) -> Result<(), NoMemory>
-        requires room { HasRoom self.old }
+        requires room { HasRoomForRanIds self.old }
         requires short { length piece.now ≤ 65536 }
-        ensures has { (lane : ℕ) (bytes : List ℕ) → HasGathered lane self.old bytes → OnOk result (HasGathered lane self.new (bytes ++ piece.now)) }
-        ensures room { OnOk result (HasRoom self.new) }
+        ensures has { (lane : ℕ) (bytes : List ℕ) → HasRanIds lane self.old bytes → OnOk result (HasRanIds lane self.new (bytes ++ piece.now)) }
+        ensures room { OnOk result (HasRoomForRanIds self.new) }
     {
         self.reader.feed(piece);
         gather_notes(self.lane, &mut self.reader, &mut self.ids)
@@ -49,7 +49,7 @@ impl RanReader {
 
     /// Ends the run, and gives the ids, each once, in the order in which they began to run.
     pub(crate) fn close(self, alloc: Global) -> Result<IdList, NoMemory>
-        ensures { (lane : ℕ) (bytes : List ℕ) → HasGathered lane self bytes → IfOk result (AreRan lane bytes) }
+        ensures { (lane : ℕ) (bytes : List ℕ) → HasRanIds lane self bytes → IfOk result (AreRan lane bytes) }
     {
         let RanReader {
             mut reader,
@@ -58,6 +58,6 @@ impl RanReader {
         } = self;
         reader.finish();
         gather_notes(lane, &mut reader, &mut ids)?;
-        firsts(alloc, ids)
+        first_of_each(alloc, ids)
     }
 }

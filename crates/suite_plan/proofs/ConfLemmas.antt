@@ -8,14 +8,14 @@ use Rattle.edge_io.specs.Files.{IsFileOf, IsTooLong, CountsFailed}
 use Rattle.edge_io.specs.Seen.{Seen}
 use Rattle.edge_io.specs.declared.whole_file.ReadFault.{ReadFault}
 use Rattle.edge_io.specs.declared.whole_file.ReadFault.TheVariants as read
-use Rattle.stestr_conf.specs.Command.{settled}
+use Rattle.stestr_conf.specs.Command.{settled_values}
 use Rattle.stestr_conf.specs.Table.{table_of}
-use Rattle.stestr_conf.specs.declared.command.SettleFault.{SettleFault}
-use Rattle.stestr_conf.specs.declared.command.SettleFault.TheVariants as settle
+use Rattle.stestr_conf.specs.declared.settled_values.SettleFault.{SettleFault}
+use Rattle.stestr_conf.specs.declared.settled_values.SettleFault.TheVariants as settle
 use Rattle.stestr_conf.specs.declared.table.TableFault.{TableFault}
 use Rattle.stestr_conf.specs.declared.table.TableFault.TheVariants as table
 use Rattle.suite_plan.specs.Texts.{most_text}
-use Rattle.suite_plan.specs.ConfFile.{file_name, file_by, file_says, text_says, lines_say, stestr_says, table_says, values_say, settings_say, or_next, required, settings_of, said_of, conf_failed, unread_conf, refused_lines, HasConfCause, ReadsSaid}
+use Rattle.suite_plan.specs.ConfFile.{conf_file_name, file_by, file_says, text_says, lines_say, stestr_says, table_says, values_say, settings_say, or_next, required, project_settings, settings_for, conf_failed, unread_conf, refused_lines, HasConfCause, ReadsSaid}
 use Rattle.suite_plan.specs.declared.conf_file.BadConf.TheVariants.{TooLong}
 use Rattle.suite_plan.specs.declared.conf_file.ConfFile.{ConfFile}
 use Rattle.suite_plan.specs.declared.conf_file.ConfFile.TheVariants.{TestrConf, StestrConf, PyProject}
@@ -63,7 +63,7 @@ module _ {T : Type 0} (said : Files → Result T ConfRefusal) (before after : Se
 
 module _ (words : ProjectWords) (file : ConfFile) (before after : Seen Files) (same : after.told ≡ before.told) where
   -- it was not read whole
-  unread_end : (T : Type 0) (fault : ReadFault) → IsTooLong {T = T} before.told (file_name file) most_text (Err fault) → CountsFailed {T = T} before.faults after.faults (Err fault)
+  unread_end : (T : Type 0) (fault : ReadFault) → IsTooLong {T = T} before.told (conf_file_name file) most_text (Err fault) → CountsFailed {T = T} before.faults after.faults (Err fault)
       → ReadsSaid (file_says words file) before after (Err (unread_conf file fault))
   unread_end T read.Failed long count = record {
     conf = tt;
@@ -72,23 +72,23 @@ module _ (words : ProjectWords) (file : ConfFile) (before after : Seen Files) (s
     count = record { later = count.0; rose = λ is. count.1; stands = λ is. absurd (true≢false is) };
   }
   unread_end T read.TooLong long count = said_end (file_says words file) before after same (Err (conf.Bad file TooLong)) count refl
-      (where_told before.told (λ files. IsSomeAnd (files (file_name file)) (λ text. most_text < length text)) (λ files. file_says words file files ≡ Err (conf.Bad file TooLong))
-      (λ files. too_long (files (file_name file))) long)
+      (where_told before.told (λ files. IsSomeAnd (files (conf_file_name file)) (λ text. most_text < length text)) (λ files. file_says words file files ≡ Err (conf.Bad file TooLong))
+      (λ files. too_long (files (conf_file_name file))) long)
     where
       too_long : (o : Option (List ℕ)) → IsSomeAnd o (λ text. most_text < length text) → file_by words file o ≡ Err (conf.Bad file TooLong)
       too_long None long = absurd long
       too_long (Some text) long = cond-true (nat_lt most_text (length text)) (Err (conf.Bad file TooLong)) (text_says words file text) (lt-ltb most_text (length text) long)
   unread_end T read.NoMemory long count = memory_end (file_says words file) before after same count
 
-  pub unread_as : {T : Type 0} (answer : Result T ReadFault) (fault : ReadFault) → answer ≡ Err fault → IsTooLong before.told (file_name file) most_text answer → CountsFailed before.faults after.faults answer
+  pub unread_as : {T : Type 0} (answer : Result T ReadFault) (fault : ReadFault) → answer ≡ Err fault → IsTooLong before.told (conf_file_name file) most_text answer → CountsFailed before.faults after.faults answer
       → ReadsSaid (file_says words file) before after (Err (unread_conf file fault))
   unread_as {T = T} answer fault is long count =
-      unread_end T fault (subst (λ (r : Result T ReadFault). IsTooLong before.told (file_name file) most_text r) is long) (subst (λ (r : Result T ReadFault). CountsFailed before.faults after.faults r) is count)
+      unread_end T fault (subst (λ (r : Result T ReadFault). IsTooLong before.told (conf_file_name file) most_text r) is long) (subst (λ (r : Result T ReadFault). CountsFailed before.faults after.faults r) is count)
 
   -- there is none
-  pub absent_end : IsFileOf before.told (file_name file) None → after.faults ≡ before.faults → ReadsSaid (file_says words file) before after (Ok None)
+  pub absent_end : IsFileOf before.told (conf_file_name file) None → after.faults ≡ before.faults → ReadsSaid (file_says words file) before after (Ok None)
   absent_end is count = said_end (file_says words file) before after same (Ok None) count refl
-      (where_told before.told (λ files. files (file_name file) ≡ None) (λ files. file_says words file files ≡ Ok None) (λ files none. ap (file_by words file) none) is)
+      (where_told before.told (λ files. files (conf_file_name file) ≡ None) (λ files. file_says words file files ≡ Ok None) (λ files none. ap (file_by words file) none) is)
 
   fits : (text : List ℕ) → length text ≤ most_text → file_by words file (Some text) ≡ text_says words file text
   fits text short = cond-false (nat_lt most_text (length text)) (Err (conf.Bad file TooLong)) (text_says words file text) (le-ltb most_text (length text) short)
@@ -112,7 +112,7 @@ settings_fine file (Err settle.NoTestPath) = refl
 settings_fine file (Err settle.NoMemory) = refl
 
 values_fine : (words : ProjectWords) (file : ConfFile) (values : StestrValues) → conf_failed (values_say words file values) ≡ false
-values_fine words file values = settings_fine file (settled words.test_path words.top_dir values)
+values_fine words file values = settings_fine file (settled_values words.test_path words.top_dir values)
 
 stestr_fine : (words : ProjectWords) (told : Result StestrValues ConfFault) → conf_failed (stestr_says words told) ≡ false
 stestr_fine words (Ok values) = values_fine words StestrConf values
@@ -133,11 +133,11 @@ text_fine words PyProject text = table_fine words (table_of text)
 
 -- its text was read
 pub text_end : (words : ProjectWords) (file : ConfFile) (before after : Seen Files) → after.told ≡ before.told → (text : List ℕ) (result : Result (Option Settings) ConfRefusal)
-    → IsFileOf before.told (file_name file) (Some text) → length text ≤ most_text → after.faults ≡ before.faults
+    → IsFileOf before.told (conf_file_name file) (Some text) → length text ≤ most_text → after.faults ≡ before.faults
     → (text_says words file text ≡ result) ⊎ (result ≡ Err conf.NoMemory) → ReadsSaid (file_says words file) before after result
 text_end words file before after same text result is short count ends = ⊎_elim
     (λ says. said_end (file_says words file) before after same result count (ap conf_failed (sym says) ∙ text_fine words file text)
-    (where_told before.told (λ files. files (file_name file) ≡ Some text) (λ files. file_says words file files ≡ result)
+    (where_told before.told (λ files. files (conf_file_name file) ≡ Some text) (λ files. file_says words file files ≡ result)
     (λ files there. ap (file_by words file) there ∙ fits words file before after same text short ∙ says) is))
     (λ memory. subst (ReadsSaid (file_says words file) before after) (sym memory) (memory_end (file_says words file) before after same count))
     ends
@@ -195,12 +195,12 @@ module _ (first next : Files → Result (Option Settings) ConfRefusal) where
 module _ (project : Project) (said : Files → Result (Option Settings) ConfRefusal) (before after : Seen Files) where
   -- what is said, where something has to be
   abbrev pub project_said : Files → Result Settings ConfRefusal
-  project_said files = said_of project (required (said files))
+  project_said files = settings_for project (required (said files))
 
-  pub project_says : (settings : Settings) → ReadsSaid said before after (Ok (Some settings)) → ReadsSaid project_said before after (Ok (settings_of project.folder project.words settings))
+  pub project_says : (settings : Settings) → ReadsSaid said before after (Ok (Some settings)) → ReadsSaid project_said before after (Ok (project_settings project.folder project.words settings))
   project_says settings reads = record {
-    conf = where_told before.told (λ files. said files ≡ Ok (Some settings)) (λ files. project_said files ≡ Ok (settings_of project.folder project.words settings))
-        (λ files is. ap (λ r. said_of project (required r)) is) reads.conf;
+    conf = where_told before.told (λ files. said files ≡ Ok (Some settings)) (λ files. project_said files ≡ Ok (project_settings project.folder project.words settings))
+        (λ files is. ap (λ r. settings_for project (required r)) is) reads.conf;
     refused = tt;
     same = reads.same;
     count = reads.count;
@@ -212,7 +212,7 @@ module _ (project : Project) (said : Files → Result (Option Settings) ConfRefu
   pub project_absent : ReadsSaid said before after (Ok None) → ReadsSaid project_said before after (Err conf.Absent)
   project_absent reads = record {
     conf = tt;
-    refused = where_told before.told (λ files. said files ≡ Ok None) (λ files. project_said files ≡ Err conf.Absent) (λ files is. ap (λ r. said_of project (required r)) is) reads.conf;
+    refused = where_told before.told (λ files. said files ≡ Ok None) (λ files. project_said files ≡ Err conf.Absent) (λ files is. ap (λ r. settings_for project (required r)) is) reads.conf;
     same = reads.same;
     count = reads.count;
   }
@@ -221,12 +221,12 @@ module _ (project : Project) (said : Files → Result (Option Settings) ConfRefu
   project_refuses refusal reads = record {
     conf = tt;
     refused = where_told before.told (λ files. HasConfCause (said files) refusal) (λ files. HasConfCause (project_said files) refusal)
-        (λ files. cause_under (λ r. said_of project (required r)) (λ r. refl) (said files) refusal) reads.refused;
+        (λ files. cause_under (λ r. settings_for project (required r)) (λ r. refl) (said files) refusal) reads.refused;
     same = reads.same;
     count = reads.count;
   }
 
   pub project_end : (settings : Settings) → ReadsSaid said before after (Ok (Some settings)) → (result : Result Settings ConfRefusal)
-      → IfOk result (λ given. given ≡ settings_of project.folder project.words settings) → IfErr result (λ refusal. refusal ≡ conf.NoMemory) → ReadsSaid project_said before after result
+      → IfOk result (λ given. given ≡ project_settings project.folder project.words settings) → IfErr result (λ refusal. refusal ≡ conf.NoMemory) → ReadsSaid project_said before after result
   project_end settings reads (Ok given) is short = subst (λ (s : Settings). ReadsSaid project_said before after (Ok s)) (sym is) (project_says settings reads)
   project_end settings reads (Err refusal) is short = subst (λ (r : ConfRefusal). ReadsSaid project_said before after (Err r)) (sym short) (project_short settings reads)

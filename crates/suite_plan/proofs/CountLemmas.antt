@@ -9,7 +9,7 @@ use Rattle.std.specs.Char.{is_ascii_digit}
 use Rattle.std.specs.List.{list_all}
 use Rattle.std.specs.Str.{IsUtf8, IsAscii}
 use Rattle.std.specs.Str.Parse.{digits_value, AllDigits, ParsesUnsigned}
-use Rattle.suite_plan.specs.Calling.{called}
+use Rattle.suite_plan.specs.Calling.{called_number}
 use Rattle.suite_plan.specs.Tails.{IsTailOf}
 use Rattle.suite_plan.specs.declared.tail.Tail.{Tail}
 
@@ -35,14 +35,14 @@ digits_parsed bytes result parsed all some few = parse_gives digits 32 bytes res
 -- ---- the last bytes
 
 -- Those that are held of an output tell what all of them tell: they are all, or too many as all are.
-pub called_tail : (bytes : List ℕ) (tail : Tail) → IsTailOf bytes tail → called tail.bytes.items ≡ called bytes
+pub called_tail : (bytes : List ℕ) (tail : Tail) → IsTailOf bytes tail → called_number tail.bytes.items ≡ called_number bytes
 called_tail bytes tail has = by tail.cut refl
   where
-    none : (bytes : List ℕ) → 65 ≤ length bytes → called bytes ≡ None
+    none : (bytes : List ℕ) → 65 ≤ length bytes → called_number bytes ≡ None
     none bytes many = let long : nat_le (length bytes) 64 ≡ false = grind (arith, nat_tests, many) in rw long refl
 
-    by : (cut : Bool) → tail.cut ≡ cut → called tail.bytes.items ≡ called bytes
-    by false is = ap called (sym (has.whole ∙ ap (λ (l : List ℕ). l ++ tail.bytes.items) (has.all is)))
+    by : (cut : Bool) → tail.cut ≡ cut → called_number tail.bytes.items ≡ called_number bytes
+    by false is = ap called_number (sym (has.whole ∙ ap (λ (l : List ℕ). l ++ tail.bytes.items) (has.all is)))
     by true is = (
         let held = has.cut is in
         none tail.bytes.items (omega (arith, held.1)) ∙ sym (none bytes (omega (arith, held.1, ap length has.whole, length-append has.gone tail.bytes.items)))

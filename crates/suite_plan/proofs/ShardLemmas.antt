@@ -11,13 +11,13 @@ use Rattle.std.proofs.lemmas.Cmp.{nat_list_eq_equiv}
 use Rattle.partition_times.specs.Bound.{IsWithinBound}
 use Rattle.partition_times.specs.Kept.{StandsInOne, StandsAsOften}
 use Rattle.partition_times.specs.Names.{group_of, group_names, members}
-use Rattle.partition_times.specs.Shares.{Ids, Times, given, given_in_turn, given_to_least, shares_of, timed_groups, untimed_groups}
+use Rattle.partition_times.specs.Shares.{Ids, Times, with_group, given_in_turn, given_to_least, shares_of, timed_groups, untimed_groups}
 use Rattle.partition_times.proofs.BoundLemmas.{within_bound}
 use Rattle.partition_times.proofs.LawLemmas.{one_each, stands_in_one, stands_as_often, sum_of_shares}
 use Rattle.partition_times.proofs.ShareLemmas.{length-given, length-to_least}
 use Rattle.partition_times.proofs.SumLemmas.{stands_once}
 use Rattle.suite_plan.specs.Sharing.{dealt_among, ids_of_shard, shards_of}
-use Rattle.testr_words.specs.Shards.{Part}
+use Rattle.testr_words.specs.Shards.{NumberedShard}
 
 module _ (times : Times) (groups : Option (List ℕ)) (ids : Ids) (count : ℕ) where
   -- one worker has all ids, and several have the shares
@@ -88,7 +88,7 @@ alone_at (suc k) = refl
 length-in_turn : (shares : List Ids) (turn : ℕ) (groups : List Ids) → length (given_in_turn shares turn groups) ≡ length shares
 length-in_turn shares turn [] = refl
 length-in_turn shares turn (group ∷ groups) =
-    length-in_turn (given shares (turn % length shares) group) (turn + 1) groups ∙ length-given shares (turn % length shares) group
+    length-in_turn (with_group shares (turn % length shares) group) (turn + 1) groups ∙ length-given shares (turn % length shares) group
 
 none_among : (times : Times) (name_of : List ℕ → List ℕ) (ids : Ids) → length (shares_of times name_of ids 0) ≡ 0
 none_among times name_of ids =
@@ -101,6 +101,6 @@ share_at true times groups n k = alone_at k
 share_at false times groups zero k = get_or_past (shares_of times (group_of groups) [] 0) k [] (omega (arith, none_among times (group_of groups) []))
 share_at false times groups (suc n) k = nothing_at (shares_of times (group_of groups) [] (suc n)) k (sum_of_shares times (group_of groups) [] (λ id. 1) (suc n) (omega arith))
 
-pub no_part : (times : Times) (groups : Option (List ℕ)) (shard : Option Part) → ids_of_shard times groups shard [] ≡ []
+pub no_part : (times : Times) (groups : Option (List ℕ)) (shard : Option NumberedShard) → ids_of_shard times groups shard [] ≡ []
 no_part times groups None = refl
 no_part times groups (Some part) = share_at (part.count == 1) times groups part.count (part.number - 1)

@@ -10,14 +10,14 @@ use Rattle.stream_reader.specs.declared.note.Note.TheVariants as note
 use Rattle.stream_reader.specs.Notes.{HasEvents, events_of}
 use Rattle.stream_reader.proofs.TurnLemmas.{one_notes}
 use Rattle.sub_text.specs.Texts.{whole_lines}
-use Rattle.suite_plan.specs.Saying.{Says, with_event, plain_name, last_said, told_of, listing_text}
+use Rattle.suite_plan.specs.Saying.{TellsListing, with_event, plain_name, last_said, told_of, listing_text}
 
 -- ---- one text
 
 one_events : (bytes : List ℕ) (some others : List Event) → AreBytes bytes → HasEvents bytes some → HasEvents bytes others → some ≡ others
 one_events bytes some others are (notes, has, some_are) (notes', has', others_are) = some_are ∙ ap events_of (one_notes bytes notes notes' are has has') ∙ sym others_are
 
-pub one_text : (bytes text other : List ℕ) → Says text bytes → Says other bytes → text ≡ other
+pub one_text : (bytes text other : List ℕ) → TellsListing text bytes → TellsListing other bytes → text ≡ other
 one_text bytes text other says also = says.text_is ∙ ap listing_text (one_events bytes says.events also.events says.are_bytes says.told also.told) ∙ sym also.text_is
 
 -- ---- how long it is

@@ -15,8 +15,8 @@ use Rattle.testr_conf.specs.Settings.{Settings}
 use Rattle.testr_conf.specs.White.{trimmed}
 use Rattle.suite_plan.specs.Children.{StartsFor, IsBroken}
 use Rattle.suite_plan.specs.Saying.{told_of}
-use Rattle.suite_plan.specs.declared.calling.CallRefusal.{CallRefusal}
-use Rattle.suite_plan.specs.declared.calling.CallRefusal.TheVariants.{Spawn, Child, NoNumber, NoMemory}
+use Rattle.suite_plan.specs.declared.count_command.CallRefusal.{CallRefusal}
+use Rattle.suite_plan.specs.declared.count_command.CallRefusal.TheVariants.{Spawn, Child, NoNumber, NoMemory}
 
 -- 1 to 9 decimal digits
 abbrev pub is_count : List ℕ → Bool
@@ -27,8 +27,8 @@ abbrev pub called_count : List ℕ → Option ℕ
 called_count digits = if is_count digits then Some (digits_value 10 digits) else None
 
 -- the number that a whole output tells, which has 64 bytes at most, between white space and newlines
-abbrev pub called : List ℕ → Option ℕ
-called bytes = if nat_le (length bytes) 64 then called_count (trimmed bytes) else None
+abbrev pub called_number : List ℕ → Option ℕ
+called_number bytes = if nat_le (length bytes) 64 then called_count (trimmed bytes) else None
 
 -- the count job was started, and its child has an output that meets this
 pub record StartsCounting (settings : Settings) (Meets : Output → Type 0) (s t : Spawning) : Type 0 where
@@ -41,13 +41,13 @@ pub record StartsCounting (settings : Settings) (Meets : Output → Type 0) (s t
 -- the child ended with 0, and its output tells the number
 pub record TellsNumber (number : ℕ) (output : Output) : Type 0 where
   pub ended : output.finish ≡ Exit (pos 0)
-  pub number_is : called output.bytes ≡ Some number
+  pub number_is : called_number output.bytes ≡ Some number
 
 -- The child ended with another status than 0, or its output tells no number. This is told of its output, as a text.
 pub record TellsNone (said : List ℕ) (output : Output) : Type 0 where
   pub status : ℤ
   pub ended : output.finish ≡ Exit status
-  pub none : (status ≡ pos 0 → ⊥) ⊎ (called output.bytes ≡ None)
+  pub none : (status ≡ pos 0 → ⊥) ⊎ (called_number output.bytes ≡ None)
   pub says : said ≡ told_of output.bytes
 
 -- where there is no count job nothing is started

@@ -5,10 +5,10 @@ use Rattle.edge_io.specs.Disk.{Files}
 use Rattle.edge_io.specs.Seen.{Seen}
 use Rattle.edge_io.specs.declared.whole_file.ReadFault.{ReadFault}
 use Rattle.edge_io.specs.declared.whole_file.ReadFault.TheVariants as read
-use Rattle.stestr_conf.specs.Command.{settled}
+use Rattle.stestr_conf.specs.Command.{settled_values}
 use Rattle.stestr_conf.specs.Table.{table_of}
-use Rattle.stestr_conf.specs.declared.command.SettleFault.{SettleFault}
-use Rattle.stestr_conf.specs.declared.command.SettleFault.TheVariants as settle
+use Rattle.stestr_conf.specs.declared.settled_values.SettleFault.{SettleFault}
+use Rattle.stestr_conf.specs.declared.settled_values.SettleFault.TheVariants as settle
 use Rattle.stestr_conf.specs.declared.table.TableFault.{TableFault}
 use Rattle.stestr_conf.specs.declared.table.TableFault.TheVariants as table
 use Rattle.suite_plan.specs.Texts.{most_text}
@@ -28,10 +28,10 @@ use Rattle.testr_words.specs.declared.command.Face.TheVariants.{Testr, Stestr}
 use Rattle.testr_words.specs.declared.command.ProjectWords.{ProjectWords}
 
 -- the name of each file
-abbrev pub file_name : ConfFile → List ℕ
-file_name TestrConf = codes ".testr.conf"
-file_name StestrConf = codes ".stestr.conf"
-file_name PyProject = codes "pyproject.toml"
+abbrev pub conf_file_name : ConfFile → List ℕ
+conf_file_name TestrConf = codes ".testr.conf"
+conf_file_name StestrConf = codes ".stestr.conf"
+conf_file_name PyProject = codes "pyproject.toml"
 
 -- the file that is looked for first
 abbrev pub first_file : Face → ConfFile
@@ -87,7 +87,7 @@ settings_say file (Err fault) = Err (refused_values file fault)
 
 -- what the values of a file say, where these words stand before them
 abbrev pub values_say : ProjectWords → ConfFile → StestrValues → Result (Option Settings) ConfRefusal
-values_say words file values = settings_say file (settled words.test_path words.top_dir values)
+values_say words file values = settings_say file (settled_values words.test_path words.top_dir values)
 
 -- what the lines of a `.stestr.conf` say
 abbrev pub stestr_says : ProjectWords → Result StestrValues ConfFault → Result (Option Settings) ConfRefusal
@@ -113,7 +113,7 @@ file_by words file (Some text) = if nat_lt most_text (length text) then Err (Bad
 
 -- what this one of the files says
 abbrev pub file_says : ProjectWords → ConfFile → Files → Result (Option Settings) ConfRefusal
-file_says words file files = file_by words file (files (file_name file))
+file_says words file files = file_by words file (files (conf_file_name file))
 
 -- ---- what the files say
 
@@ -138,17 +138,17 @@ required (Ok (Some settings)) = Ok settings
 required (Err refusal) = Err refusal
 
 -- the settings, in the folder of this path, with the groups and the arguments that the words say
-abbrev pub settings_of : List ℕ → ProjectWords → Settings → Settings
-settings_of folder words settings = with_arguments words.arguments (grouped_by words.group_regex (settings_in folder settings))
+abbrev pub project_settings : List ℕ → ProjectWords → Settings → Settings
+project_settings folder words settings = with_arguments words.arguments (grouped_by words.group_regex (settings_in folder settings))
 
 -- what is said, of this project
-abbrev pub said_of : Project → Result Settings ConfRefusal → Result Settings ConfRefusal
-said_of project (Ok settings) = Ok (settings_of project.folder project.words settings)
-said_of project (Err refusal) = Err refusal
+abbrev pub settings_for : Project → Result Settings ConfRefusal → Result Settings ConfRefusal
+settings_for project (Ok settings) = Ok (project_settings project.folder project.words settings)
+settings_for project (Err refusal) = Err refusal
 
 -- what the files of this project say of its configuration
 abbrev pub conf_in : Project → Files → Result Settings ConfRefusal
-conf_in project files = said_of project (required (files_say project.face project.words files))
+conf_in project files = settings_for project (required (files_say project.face project.words files))
 
 -- the files give these settings
 abbrev pub GivesSettings : Project → Settings → Files → Type 0

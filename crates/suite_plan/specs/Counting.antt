@@ -3,8 +3,8 @@ use Rattle.std.specs.Prelude.{⊤, ℕ, Result, Ok, Err}
 use Rattle.edge_io.specs.Children.{Output}
 use Rattle.suite_plan.specs.Calling.{TellsNumber, TellsNone}
 use Rattle.suite_plan.specs.Children.{IsBroken}
-use Rattle.suite_plan.specs.declared.calling.CallRefusal.{CallRefusal}
-use Rattle.suite_plan.specs.declared.calling.CallRefusal.TheVariants.{Spawn, Child, NoNumber, NoMemory}
+use Rattle.suite_plan.specs.declared.count_command.CallRefusal.{CallRefusal}
+use Rattle.suite_plan.specs.declared.count_command.CallRefusal.TheVariants.{Spawn, Child, NoNumber, NoMemory}
 
 -- what is answered of a child that was started and has this output
 abbrev pub TellsCount : Result ℕ CallRefusal → Output → Type 0

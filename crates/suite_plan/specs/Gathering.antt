@@ -11,25 +11,25 @@ use Rattle.testr_conf.specs.declared.fault.JobFault.TheVariants as job
 use Rattle.suite_plan.specs.Children.{IsBroken}
 use Rattle.suite_plan.specs.Listed.{HasListed}
 use Rattle.suite_plan.specs.Listing.{Lists, HasFailed}
-use Rattle.suite_plan.specs.declared.gathering.Gathered.{Gathered}
+use Rattle.suite_plan.specs.declared.listing_reader.ListingReader.{ListingReader}
 use Rattle.suite_plan.specs.declared.listed.Listed.{Listed}
-use Rattle.suite_plan.specs.declared.listing.ListingRefusal.{ListingRefusal}
-use Rattle.suite_plan.specs.declared.listing.ListingRefusal.TheVariants.{NoListOption, Spawn, Child, Failed, NoMemory}
+use Rattle.suite_plan.specs.declared.test_listing.ListingRefusal.{ListingRefusal}
+use Rattle.suite_plan.specs.declared.test_listing.ListingRefusal.TheVariants.{NoListOption, Spawn, Child, Failed, NoMemory}
 
 -- the next notes were given, and what they tell was gathered behind what was before
-pub record GathersNotes (notes : List Note) (before after : Held) (listed : Listed) : Type 0 where
+pub record GathersListing (notes : List Note) (before after : Held) (listed : Listed) : Type 0 where
   pub all : List Note
   pub given : GivesNotes before notes after all
   pub gathered : HasListed listed (events_of all)
 
 -- what the notes tell that the bytes so far decide was gathered, and the rest of the bytes is held
-pub record HasGathered (gathered : Gathered) (bytes : List ℕ) : Type 0 where
+pub record HasGatheredListing (gathered : ListingReader) (bytes : List ℕ) : Type 0 where
   pub notes : List Note
   pub begins : BeginsWithNotes bytes notes gathered.reader.bytes
   pub listed : HasListed gathered.listed (events_of notes)
 
 -- few enough bytes are held that a piece can be fed
-abbrev pub HasRoomForPiece : Gathered → Type 0
+abbrev pub HasRoomForPiece : ListingReader → Type 0
 HasRoomForPiece gathered = length gathered.reader.bytes ≤ most_held
 
 -- why there is no list job

@@ -6,13 +6,13 @@ use Rattle.packet_codec.specs.declared.event.Event.{Event}
 use Rattle.stream_reader.specs.Notes.{HasEvents}
 use Rattle.suite_plan.specs.FirstIds.{HasFirsts}
 use Rattle.suite_plan.specs.Listing.{listed_id}
-use Rattle.suite_plan.specs.Saying.{Saying, plain_name, said_by}
+use Rattle.suite_plan.specs.Saying.{ListingText, plain_name, said_by}
 use Rattle.suite_plan.specs.Tails.{IsTailOf}
 use Rattle.suite_plan.specs.declared.listed.Listed.{Listed}
-use Rattle.suite_plan.specs.declared.said.Said.{Said}
+use Rattle.suite_plan.specs.declared.file_texts.FileTexts.{FileTexts}
 
 -- the last bytes of this text are held, and this name, where none stands for `stdout`
-pub record HasSaying (saying : Saying) (said : Said) : Type 0 where
+pub record HasSaying (saying : ListingText) (said : FileTexts) : Type 0 where
   pub text : IsTailOf saying.text said.text
   pub name : saying.name ≡ unwrap_or said.name plain_name
 

@@ -17,9 +17,9 @@ use Rattle.testr_conf.specs.Jobs.{list_job_of}
 use Rattle.testr_conf.specs.Settings.{Settings}
 use Rattle.suite_plan.specs.Children.{StartsFor, IsBroken}
 use Rattle.suite_plan.specs.Firsts.{firsts}
-use Rattle.suite_plan.specs.Saying.{Says}
-use Rattle.suite_plan.specs.declared.listing.ListingRefusal.{ListingRefusal}
-use Rattle.suite_plan.specs.declared.listing.ListingRefusal.TheVariants.{NoListOption, Spawn, Child, Failed, NoMemory}
+use Rattle.suite_plan.specs.Saying.{TellsListing}
+use Rattle.suite_plan.specs.declared.test_listing.ListingRefusal.{ListingRefusal}
+use Rattle.suite_plan.specs.declared.test_listing.ListingRefusal.TheVariants.{NoListOption, Spawn, Child, Failed, NoMemory}
 
 -- the id of a test that is there, where the event tells of one
 abbrev pub id_where : Status → Option (List ℕ) → Option (List ℕ)
@@ -67,7 +67,7 @@ pub record StartsListing (settings : Settings) (Meets : Output → Type 0) (s t 
 pub record HasFailed (status : ℤ) (said : List ℕ) (output : Output) : Type 0 where
   pub ended : output.finish ≡ Exit status
   pub other : status ≡ pos 0 → ⊥
-  pub says : Says said output.bytes
+  pub says : TellsListing said output.bytes
 
 -- why nothing is listed, and what was done by then
 abbrev pub HasListingCause : Settings → ListingRefusal → Spawning → Spawning → Type 0

@@ -14,8 +14,8 @@ pub record HasTakenFront (has : List ℕ → Type 0) (before now : Option Output
   pub taken : has done
 
 -- a further piece was taken, behind what was taken before
-abbrev pub TakesPiece : (has now : List ℕ → Type 0) → Option Output → Option Output → Type 0
-TakesPiece has now before after = (done : List ℕ) → has done → (piece : List ℕ) × Goes before after (GivesFront piece) × now (done ++ piece)
+abbrev pub TakesOutputPiece : (has now : List ℕ → Type 0) → Option Output → Option Output → Type 0
+TakesOutputPiece has now before after = (done : List ℕ) → has done → (piece : List ℕ) × Goes before after (GivesFront piece) × now (done ++ piece)
 
 -- the output had ended, and its reads do not fail there
 pub record IsAtEnd (s t : Output) : Type 0 where

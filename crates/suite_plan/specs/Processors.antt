@@ -8,7 +8,7 @@ use Rattle.edge_io.specs.Seen.{Seen}
 use Rattle.edge_io.specs.declared.whole_file.ReadFault.{ReadFault}
 use Rattle.edge_io.specs.declared.whole_file.ReadFault.TheVariants as read
 use Rattle.suite_plan.specs.Texts.{most_text, HasTooMuch}
-use Rattle.suite_plan.specs.declared.sharing.TheConstants.{MOST_WORKERS}
+use Rattle.suite_plan.specs.declared.worker_shares.TheConstants.{MOST_WORKERS}
 use Rattle.suite_plan.specs.declared.processors.TableRefusal.{TableRefusal}
 use Rattle.suite_plan.specs.declared.processors.TableRefusal.TheVariants.{Site, TooLong, NoMemory}
 

@@ -37,32 +37,32 @@ abbrev pub follows_on : (before name : List ℕ) → Bool
 follows_on before name = bytes_eq name plain_name || bytes_eq name before
 
 -- the text of some pieces of files, and the name of the last one's file
-pub record Saying : Type 0 where
+pub record ListingText : Type 0 where
   pub text : List ℕ
   pub name : List ℕ
 
 -- no piece has come; a first one is as one behind a piece of `stdout`
-abbrev pub nothing_said : Saying
+abbrev pub nothing_said : ListingText
 nothing_said = record { text = []; name = plain_name }
 
 -- one piece more: its bytes, and where it does not follow on, the line with its name in front, which begins a line
-abbrev pub with_file : Saying → FilePart → Saying
+abbrev pub with_file : ListingText → FilePart → ListingText
 with_file said file = record {
   text = (if follows_on said.name file.name then said.text else whole_lines said.text ++ name_line file.name) ++ file.bytes;
   name = file.name;
 }
 
 -- one piece more, where there is one
-abbrev pub with_some : Saying → Option FilePart → Saying
+abbrev pub with_some : ListingText → Option FilePart → ListingText
 with_some said None = said
 with_some said (Some file) = with_file said file
 
 -- one event more
-abbrev pub with_event : Saying → Event → Saying
+abbrev pub with_event : ListingText → Event → ListingText
 with_event said event = with_some said event.file
 
 -- the text of the events' files, one behind another
-abbrev pub said_by : List Event → Saying
+abbrev pub said_by : List Event → ListingText
 said_by events = fold with_event nothing_said events
 
 -- ---- what is told of an output
@@ -72,7 +72,7 @@ abbrev pub listing_text : List Event → List ℕ
 listing_text events = told_of (said_by events).text
 
 -- an output of these bytes is a stream of which this text is told
-pub record Says (text bytes : List ℕ) : Type 0 where
+pub record TellsListing (text bytes : List ℕ) : Type 0 where
   pub are_bytes : AreBytes bytes
   pub events : List Event
   pub told : HasEvents bytes events

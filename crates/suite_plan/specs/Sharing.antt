@@ -3,7 +3,7 @@ use Rattle.std.specs.Prelude.{ℕ, suc, ◌-◌, ◌==◌, Bool, not, List, [], 
 use Rattle.std.specs.List.{filter, range_with_len}
 use Rattle.partition_times.specs.Names.{group_of}
 use Rattle.partition_times.specs.Shares.{Ids, Times, shares_of}
-use Rattle.testr_words.specs.Shards.{Part}
+use Rattle.testr_words.specs.Shards.{NumberedShard}
 
 -- there is an id among them
 abbrev pub has_ids : Ids → Bool
@@ -21,7 +21,7 @@ shares_for times groups ids workers = filter has_ids (dealt_among times groups i
 
 -- The ids of a shard, in the order in which they came to it: of the shares of so many workers the one of its number. Where no
 -- shard is wanted they are all ids.
-abbrev pub ids_of_shard : Times → Option (List ℕ) → Option Part → Ids → Ids
+abbrev pub ids_of_shard : Times → Option (List ℕ) → Option NumberedShard → Ids → Ids
 ids_of_shard times groups None ids = ids
 ids_of_shard times groups (Some part) ids = slice_index_or (dealt_among times groups ids part.count) (part.number - 1) []
 

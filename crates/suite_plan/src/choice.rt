@@ -7,7 +7,7 @@ ghost use Rattle.std.specs.Str.{bytes_eq};
 ghost use Rattle.partition_times.specs.Patterns.{is_found, picked_ids};
 ghost use Rattle.suite_plan.specs.Choosing.{ids_in_both, given_ids, base_ids, with_further, missed_ids, wanted_ids, chosen_of, chosen_ids};
 
-use crate::first_ids::firsts;
+use crate::first_ids::first_of_each;
 use crate::picks::{FurtherPicks, Picks};
 use outcome_fold::TextSet;
 use partition_times::{Filters, Finder, pick};
@@ -15,7 +15,7 @@ use std::alloc::Global;
 use sub_number::{IdList, NoMemory, Text};
 
 /// The ids, in their order, that stand among the others too. Both are moved, and none is copied.
-pub fn in_both(alloc: Global, ids: IdList, others: IdList) -> Result<IdList, NoMemory>
+pub fn ids_in_both(alloc: Global, ids: IdList, others: IdList) -> Result<IdList, NoMemory>
     ensures { IfOk result (λ both. both ≡ ids_in_both ids others) }
 {
     let mut known = TextSet::new(alloc);
@@ -139,7 +139,7 @@ fn wanted(
 }
 
 /// The ids, of which each stands once, that are wanted by these patterns and the further ones, in their order.
-pub fn choose(
+pub fn choose_ids(
     alloc: Global,
     ids: IdList,
     picks: &Picks,
@@ -160,7 +160,7 @@ fn choose_firsts(
 ) -> Result<IdList, NoMemory>
     ensures { IfOk result (λ chosen. chosen ≡ chosen_of (with_further picks.now further.now) ids) }
 {
-    firsts(alloc, wanted(alloc, ids, picks, further)?)
+    first_of_each(alloc, wanted(alloc, ids, picks, further)?)
 }
 
 // The ids that are given without a listing: of the failing ids those that a load list has, or the failing ids, or those of
@@ -173,7 +173,7 @@ fn choose_given(
     ensures { IfOk result (λ given. given ≡ given_ids failing listed) }
 {
     match (failing, listed) {
-        (Some(failing), Some(listed)) => Ok(Some(in_both(alloc, failing, listed)?)),
+        (Some(failing), Some(listed)) => Ok(Some(ids_in_both(alloc, failing, listed)?)),
         (Some(failing), None) => Ok(Some(failing)),
         (None, listed) => Ok(listed),
     }
@@ -183,7 +183,7 @@ fn choose_given(
 /// a load list are given, they are those of the failing ids that the load list has, in the order of the failing ids.
 /// Else they are the failing ids, or those of the load list, or those of a listing, of which each stands once,
 /// whichever is given first. `None` comes exactly where none of the three is given: then one worker runs all tests.
-pub fn chosen(
+pub fn chosen_ids(
     alloc: Global,
     failing: Option<IdList>,
     listed: Option<IdList>,
@@ -196,7 +196,7 @@ pub fn chosen(
 {
     match (choose_given(alloc, failing, listed)?, listing) {
         (Some(given), _) => Ok(Some(choose_firsts(alloc, given, picks, further)?)),
-        (None, Some(listing)) => Ok(Some(choose(alloc, listing, picks, further)?)),
+        (None, Some(listing)) => Ok(Some(choose_ids(alloc, listing, picks, further)?)),
         (None, None) => Ok(None),
     }
 }

@@ -1,7 +1,7 @@
 //! The configuration of a project, read from its file.
 
 ghost use Rattle.std.specs.Prelude.{◌≡◌, ◌≤◌, ◌⊎◌, ◌++◌, ◌∷◌, [], length, Err, IfOk, IfErr, OnOk};
-ghost use Rattle.suite_plan.specs.ConfFile.{ReadsConf, ReadsSaid, file_name, file_says, files_say, later_say, settings_of, first_file, second_file, lines_say, values_say, stestr_says, table_says, text_says, unread_conf, refused_lines, refused_values, refused_table};
+ghost use Rattle.suite_plan.specs.ConfFile.{ReadsConf, ReadsSaid, conf_file_name, file_says, files_say, later_say, project_settings, first_file, second_file, lines_say, values_say, stestr_says, table_says, text_says, unread_conf, refused_lines, refused_values, refused_table};
 ghost use Rattle.suite_plan.specs.declared.conf_file.ConfRefusal.TheVariants.{NoMemory};
 ghost use Rattle.stestr_conf.specs.Table.{table_of};
 ghost use Rattle.testr_conf.specs.Settings.{conf_of};
@@ -10,7 +10,7 @@ ghost use Rattle.testr_conf.specs.Stestr.{stestr_of};
 use crate::texts::MOST_TEXT;
 use edge_io::{ReadFault, Site, read_file};
 use std::alloc::Global;
-use stestr_conf::{SettleFault, TableFault, TableKey, read_table, settle};
+use stestr_conf::{SettleFault, TableFault, TableKey, read_table, settings_of_values};
 use sub_number::{IdList, NoMemory as OutOfMemory, Text};
 use testr_conf::{Conf, ConfFault, MachineKey, StestrValues};
 use testr_words::{Face, ProjectWords};
@@ -29,7 +29,7 @@ pub enum ConfFile {
 impl ConfFile {
     // The name of the file.
     fn name(self) -> &'static str
-        ensures { result.now ≡ file_name self }
+        ensures { result.now ≡ conf_file_name self }
     {
         match self {
             ConfFile::TestrConf => ".testr.conf",
@@ -168,12 +168,12 @@ fn of_project(
     words: &ProjectWords,
     conf: Conf,
 ) -> Result<Conf, ConfRefusal>
-    ensures settings { IfOk result (λ settings. settings ≡ settings_of folder.bytes.items words.now conf) }
+    ensures settings { IfOk result (λ settings. settings ≡ project_settings folder.bytes.items words.now conf) }
     ensures memory { IfErr result (λ refusal. refusal ≡ NoMemory) }
 {
     let pattern = copied(&words.group_regex)?;
     let arguments = copied_list(alloc, words.arguments.list())?;
-    let conf = conf.stand_in(folder).grouped_by(pattern);
+    let conf = conf.place_in(folder).grouped_by(pattern);
     Ok(conf.with_arguments(arguments))
 }
 
@@ -340,7 +340,7 @@ fn settle_values(
 ) -> Result<Option<Conf>, ConfRefusal>
     ensures { (values_say words.now file values.now ≡ result) ⊎ (result ≡ Err NoMemory) }
 {
-    match settle(
+    match settings_of_values(
         alloc,
         words.test_path.as_ref(),
         words.top_dir.as_ref(),

@@ -55,7 +55,7 @@ impl FirstIds {
 }
 
 /// The ids in their order, of repeats the first. So each stands once. They are moved.
-pub fn firsts(alloc: Global, ids: IdList) -> Result<IdList, NoMemory>
+pub fn first_of_each(alloc: Global, ids: IdList) -> Result<IdList, NoMemory>
     ensures firsts { IfOk result (λ list. list ≡ firsts ids) }
     ensures distinct { IfOk result (λ list. IsDistinct bytes_eq list) }
 {

@@ -3,7 +3,7 @@
 ghost use Rattle.std.specs.Prelude.{◌≡◌, ◌≤◌, ◌⊎◌, ◌∷◌, ◌++◌, [], Some, length, IfOk, IfErr, IfSome, OnOk};
 ghost use Rattle.std.specs.Option.{option_copied};
 ghost use Rattle.testr_conf.specs.Jobs.{all_job_of};
-ghost use Rattle.suite_plan.specs.declared.sharing.TheConstants.{MOST_WORKERS};
+ghost use Rattle.suite_plan.specs.declared.worker_shares.TheConstants.{MOST_WORKERS};
 ghost use Rattle.suite_plan.specs.LaneJobs.{lane_jobs};
 
 use edge_io::Job;

@@ -11,46 +11,46 @@
 //! - `texts`: files that are read whole, and must not be too long
 //! - `conf_file`, `load_list`, `pattern_list`, `processors`: the configuration, a list of ids, one of patterns, and the table
 //!   of processors
-//! - `output`, `gathering`, `notes`: what a child gives, read to its end
-//! - `listing`, `calling`, `count`: the tests that the project's listing tells of, and the number of workers that it calls out
-//! - `listed`, `first_ids`, `said`, `tail`: the ids that a listing tells, each once, and what is told of a program that failed
+//! - `output`, `listing_reader`, `notes`: what a child gives, read to its end
+//! - `test_listing`, `count_command`, `output_number`: the tests that the project's listing tells of, and the number of workers that it calls out
+//! - `listed`, `first_ids`, `file_texts`, `tail`: the ids that a listing tells, each once, and what is told of a program that failed
 //! - `patterns`, `picks`, `choice`: which of the tests run
-//! - `sharing`, `lane_jobs`: which shard has which of them, which worker runs which of them, and the job of each worker
+//! - `worker_shares`, `lane_jobs`: which shard has which of them, which worker runs which of them, and the job of each worker
 //! - `laws`: what is told of every output, and how shards share the ids
 #![tactic(auto)]
 
-mod calling;
 mod choice;
 mod conf_file;
-mod count;
+mod count_command;
+mod file_texts;
 mod first_ids;
-mod gathering;
 mod lane_jobs;
 mod laws;
 mod listed;
-mod listing;
+mod listing_reader;
 mod load_list;
 mod notes;
 mod output;
+mod output_number;
 mod pattern_list;
 mod patterns;
 mod picks;
 mod processors;
-mod said;
-mod sharing;
 mod tail;
+mod test_listing;
 mod texts;
+mod worker_shares;
 
-pub use calling::{CallRefusal, call_out};
-pub use choice::{choose, chosen, in_both};
+pub use choice::{choose_ids, chosen_ids, ids_in_both};
 pub use conf_file::{BadConf, ConfFile, ConfRefusal, read_conf};
-pub use first_ids::firsts;
+pub use count_command::{CallRefusal, run_count_command};
+pub use first_ids::first_of_each;
 pub use lane_jobs::jobs_of_lanes;
 pub use laws::{outputs_tell_one_text, shards_are_shares};
-pub use listing::{ListingRefusal, list_tests};
 pub use load_list::{ListRefusal, read_load_list};
 pub use pattern_list::{BadLine, PatternListRefusal, read_pattern_list};
-pub use patterns::{Compiled, PatternRefusal, compile};
+pub use patterns::{Compiled, PatternRefusal, compile_picks};
 pub use picks::{FurtherPicks, Picks};
 pub use processors::{TableRefusal, count_processors};
-pub use sharing::{MOST_WORKERS, keep_shard, share_out};
+pub use test_listing::{ListingRefusal, list_tests};
+pub use worker_shares::{MOST_WORKERS, ids_of_shard, share_out_ids};

@@ -8,10 +8,10 @@ ghost use Rattle.packet_codec.specs.declared.event.Event.{Event as AnEvent};
 ghost use Rattle.stream_reader.specs.Notes.{event_of};
 ghost use Rattle.suite_plan.specs.Listed.{HasListed, HasListedAll};
 ghost use Rattle.suite_plan.specs.Listing.{Lists, id_where};
-ghost use Rattle.suite_plan.specs.Saying.{Says};
+ghost use Rattle.suite_plan.specs.Saying.{TellsListing};
 
+use crate::file_texts::FileTexts;
 use crate::first_ids::FirstIds;
-use crate::said::Said;
 use packet_codec::{Event, Status};
 use std::alloc::Global;
 use stream_reader::Note;
@@ -21,7 +21,7 @@ use sub_number::{Bytes, IdList, NoMemory, Text};
 #[derive(Drop)]
 pub(crate) struct Listed {
     pub(crate) ids: FirstIds,
-    pub(crate) said: Said,
+    pub(crate) said: FileTexts,
 }
 
 impl Listed {
@@ -31,7 +31,7 @@ impl Listed {
     {
         Listed {
             ids: FirstIds::new(alloc),
-            said: Said::new(alloc),
+            said: FileTexts::new(alloc),
         }
     }
 
@@ -57,7 +57,7 @@ impl Listed {
 
     /// What is told of the files.
     pub(crate) fn into_told(self, alloc: Global) -> Result<Bytes, NoMemory>
-        ensures { (bytes : List ℕ) → AreBytes bytes → HasListedAll bytes self → IfOk result (λ told. Says told bytes) }
+        ensures { (bytes : List ℕ) → AreBytes bytes → HasListedAll bytes self → IfOk result (λ told. TellsListing told bytes) }
     {
         self.said.into_told(alloc)
     }

@@ -3,7 +3,7 @@
 ghost use Rattle.std.specs.Prelude.{◌≡◌, ◌<◌, ◌≤◌, ◌++◌, ℕ, List, [], true, false, length, IfOk, OnOk, IfSome};
 ghost use Rattle.edge_io.specs.Children.{HasBroken};
 ghost use Rattle.edge_io.specs.Steps.{Goes};
-ghost use Rattle.suite_plan.specs.Outputs.{TakesPiece, IsAtEnd, IsTaken, HasStatus};
+ghost use Rattle.suite_plan.specs.Outputs.{TakesOutputPiece, IsAtEnd, IsTaken, HasStatus};
 ghost use Rattle.suite_plan.specs.declared.output.OutputFault.TheVariants.{Child as child_fault};
 ghost use Rattle.edge_io.specs.declared.child.Finish.TheVariants.{ReadFault};
 
@@ -116,7 +116,7 @@ fn take_piece<C: Child, T: Taker>(
     requires room { length buffer.old ≡ 65536 }
     ensures ready { OnOk result (T.ready taker.new) }
     ensures room { length buffer.new ≡ length buffer.old }
-    ensures more { result ≡ Ok true → TakesPiece (T.has taker.old) (T.has taker.new) (C.seen child.old).told (C.seen child.new).told }
+    ensures more { result ≡ Ok true → TakesOutputPiece (T.has taker.old) (T.has taker.new) (C.seen child.old).told (C.seen child.new).told }
     ensures ended { result ≡ Ok false → Goes (C.seen child.old).told (C.seen child.new).told IsAtEnd }
     ensures same { result ≡ Ok false → taker.new ≡ taker.old }
     ensures broken { result ≡ Err child_fault → IfSome (C.seen child.old).told HasBroken }

@@ -33,7 +33,7 @@ pub enum PatternRefusal<'a> {
 ///
 /// `Bad` comes only with the first bad one of the patterns, in their order, those that exclude behind those that include,
 /// and with the regex only where all of them are good.
-pub fn compile<'a>(
+pub fn compile_picks<'a>(
     alloc: Global,
     including: &'a IdList,
     excluding: &'a IdList,

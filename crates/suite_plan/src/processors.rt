@@ -4,8 +4,8 @@ ghost use Rattle.std.specs.Prelude.{◌≡◌, ◌≤◌, length};
 ghost use Rattle.suite_plan.specs.Processors.{CountsProcessors, processors_in, clamp_workers};
 ghost use Rattle.suite_plan.specs.Texts.{most_text};
 
-use crate::sharing::MOST_WORKERS;
 use crate::texts::MOST_TEXT;
+use crate::worker_shares::MOST_WORKERS;
 use bstr::ByteSlice;
 use edge_io::{ReadFault, Site, read_file};
 use std::alloc::Global;

@@ -8,7 +8,7 @@ use Rattle.std.proofs.lemmas.List.Elements.{filter-append, All-nil, All-cons, Al
 use Rattle.edge_io.specs.Disk.{Folder}
 use Rattle.edge_io.specs.Seen.{Seen}
 use Rattle.edge_io.specs.Steps.{Goes, Grown}
-use Rattle.live_text.specs.Live.{live_line, live_lines, live_so_far, live_rows, live_end, behind, end_of, rows_done}
+use Rattle.live_text.specs.Live.{live_line, live_lines, live_so_far, live_rows, live_end, printed_behind, end_behind_rows, rows_done}
 use Rattle.live_text.specs.declared.live.Live.{Live}
 use Rattle.live_text.proofs.LiveLemmas.{grows, lines_append, rows_more}
 use Rattle.live_text.proofs.WriterLemmas.{count_hidden, count_shown, row_hidden, row_shown}
@@ -24,10 +24,10 @@ use Rattle.run_ledger.specs.declared.written_run.WrittenRun.{WrittenRun}
 use Rattle.speaker.specs.Speaking.{Takes}
 use Rattle.speaker.proofs.TakesLemmas.{none_yet}
 use Rattle.suite_run.specs.Aloud.{ArePieces, BeganAloud, Gathered, Gathers, Hears, HearsSince, SaysFirst, SaysSince, SaysUpTo, Sinks, Voices, echoed, voices}
-use Rattle.suite_run.specs.declared.ear.Echo.{Echo}
-use Rattle.suite_run.specs.declared.ear.Echo.TheVariants.{Nothing, Packets}
-use Rattle.suite_run.specs.declared.ear.Said.{Said}
-use Rattle.suite_run.specs.declared.ear.Shown.{Shown}
+use Rattle.suite_run.specs.declared.run_listener.Echo.{Echo}
+use Rattle.suite_run.specs.declared.run_listener.Echo.TheVariants.{Nothing, Packets}
+use Rattle.suite_run.specs.declared.run_listener.Said.{Said}
+use Rattle.suite_run.specs.declared.run_listener.Shown.{Shown}
 use Rattle.suite_run.specs.declared.lines.Hearing.{Hearing}
 use Rattle.suite_run.specs.declared.lines.Lines.{Lines}
 use Rattle.worker_mux.specs.Callers.{Tape, WasHanded}
@@ -60,7 +60,7 @@ pub gathers_more : (filter_tags : List (List ℕ)) (kind : Live) (said : List �
 gathers_more filter_tags kind said old new seen events was folded told =
     let n : ℕ = length (rows_done seen) in
     let rows = completed_behind seen events in
-    let count : behind n rows ≡ length (rows_done (seen ++ events)) = sym (length-append (rows_done seen) (filter is_run rows)) ∙ ap length (sym (rows_more seen events)) in
+    let count : printed_behind n rows ≡ length (rows_done (seen ++ events)) = sym (length-append (rows_done seen) (filter is_run rows)) ∙ ap length (sym (rows_more seen events)) in
     record {
       folded = folded;
       kind_is = told.kind ∙ was.kind_is;
@@ -72,7 +72,7 @@ gathers_more filter_tags kind said old new seen events was folded told =
           ∙ sym (grows kind seen events);
     }
 
-lines_push : (kind : Live) (before : ℕ) (rows : List Row) (row : Row) → live_rows kind before (rows ++ row ∷ []) ≡ live_rows kind before rows ++ live_rows kind (behind before rows) (row ∷ [])
+lines_push : (kind : Live) (before : ℕ) (rows : List Row) (row : Row) → live_rows kind before (rows ++ row ∷ []) ≡ live_rows kind before rows ++ live_rows kind (printed_behind before rows) (row ∷ [])
 lines_push kind before rows row = ap (live_lines kind before) (filter-append is_run rows (row ∷ [])) ∙ lines_append kind before (filter is_run rows) (filter is_run (row ∷ []))
 
 -- a row was told of which nothing is printed
@@ -81,7 +81,7 @@ gathered_hidden begun lines rows row hidden told = record {
   kind = told.kind;
   text = λ before is.
       told.text before is
-      ∙ ap (λ l. begun.text.items ++ l) (sym (append-nil (live_rows begun.kind before rows)) ∙ ap (λ l. live_rows begun.kind before rows ++ l) (sym (row_hidden begun.kind (behind before rows) row hidden)) ∙ sym (lines_push begun.kind before rows row));
+      ∙ ap (λ l. begun.text.items ++ l) (sym (append-nil (live_rows begun.kind before rows)) ∙ ap (λ l. live_rows begun.kind before rows ++ l) (sym (row_hidden begun.kind (printed_behind before rows) row hidden)) ∙ sym (lines_push begun.kind before rows row));
   column = λ before is. told.column before is ∙ ap (λ n. (before + n) % 70) (count_hidden rows row hidden);
 }
 
@@ -92,22 +92,22 @@ gathered_shown begun lines now rows row shown kind text column told = record {
   text = λ before is.
       text
       ∙ (λ i. told.text before is i ++ live_line (told.kind i) (told.column before is i) row)
-      ∙ append_assoc begun.text.items (live_rows begun.kind before rows) (live_line begun.kind (behind before rows % 70) row)
-      ∙ ap (λ l. begun.text.items ++ l) (ap (λ l. live_rows begun.kind before rows ++ l) (sym (row_shown begun.kind (behind before rows) row shown)) ∙ sym (lines_push begun.kind before rows row));
+      ∙ append_assoc begun.text.items (live_rows begun.kind before rows) (live_line begun.kind (printed_behind before rows % 70) row)
+      ∙ ap (λ l. begun.text.items ++ l) (ap (λ l. live_rows begun.kind before rows ++ l) (sym (row_shown begun.kind (printed_behind before rows) row shown)) ∙ sym (lines_push begun.kind before rows row));
   column = λ before is.
       let count : length (filter is_run rows) + 1 ≡ length (filter is_run (rows ++ row ∷ [])) = count_shown rows row shown in
-      let same : behind before rows + 1 ≡ behind before (rows ++ row ∷ []) = omega (arith, count) in
-      column (behind before rows) (told.column before is) ∙ ap (λ n. n % 70) same;
+      let same : printed_behind before rows + 1 ≡ printed_behind before (rows ++ row ∷ []) = omega (arith, count) in
+      column (printed_behind before rows) (told.column before is) ∙ ap (λ n. n % 70) same;
 }
 
 -- the rows that are open at the end were told, and the last line ended
 pub closed_end : (filter_tags : List (List ℕ)) (kind : Live) (said : List ℕ) (hearing : Hearing) (lines : Lines) (end : List ℕ) (events : List Event) → Gathers filter_tags kind said hearing events → hearing.lines.text.items ≡ []
-    → Gathered hearing.lines lines ([] ++ open_rows events) → ((kind : Live) (before : ℕ) → lines.kind ≡ kind → lines.column ≡ before % 70 → end ≡ lines.text.items ++ end_of kind before) → end ≡ live_end kind (length (rows_done events)) (open_rows events)
+    → Gathered hearing.lines lines ([] ++ open_rows events) → ((kind : Live) (before : ℕ) → lines.kind ≡ kind → lines.column ≡ before % 70 → end ≡ lines.text.items ++ end_behind_rows kind before) → end ≡ live_end kind (length (rows_done events)) (open_rows events)
 closed_end filter_tags kind said hearing lines end events gathers none told ends =
     let n : ℕ = length (rows_done events) in
     let rows = open_rows events in
-    ends kind (behind n rows) (told.kind ∙ gathers.kind_is) (told.column n gathers.column)
-    ∙ ap (λ l. l ++ end_of kind (behind n rows)) (told.text n gathers.column ∙ (λ i. none i ++ live_rows (gathers.kind_is i) n rows))
+    ends kind (printed_behind n rows) (told.kind ∙ gathers.kind_is) (told.column n gathers.column)
+    ∙ ap (λ l. l ++ end_behind_rows kind (printed_behind n rows)) (told.text n gathers.column ∙ (λ i. none i ++ live_rows (gathers.kind_is i) n rows))
 
 -- ---- groups
 

@@ -18,15 +18,15 @@ use Rattle.run_ledger.proofs.WrittenLemmas.{events_again}
 use Rattle.run_shelf.specs.declared.faults.ShelfCall.{ShelfCall}
 use Rattle.run_shelf.specs.declared.faults.ShelfCall.TheVariants.{Append}
 use Rattle.suite_run.specs.Aloud.{AddsAloud, AddsSaid, BeganAloud, Hears, HearsSince, SaysSince, Sinks, Voices, voices}
-use Rattle.suite_run.specs.Closing.{Answers, Closes, IsDecidedBy}
+use Rattle.suite_run.specs.Closing.{AnswersLanes, ClosesHearing, IsDecidedBy}
 use Rattle.suite_run.specs.Recording.{AddsByFew, AddsRows, AddsSums, RecordsLanes, TellsOfAppend, lanes_failed}
 use Rattle.suite_run.specs.Summed.{GivesSums}
-use Rattle.suite_run.specs.declared.ear.Echo.{Echo}
-use Rattle.suite_run.specs.declared.ear.Said.{Said}
-use Rattle.suite_run.specs.declared.ear.Shown.{Shown}
+use Rattle.suite_run.specs.declared.run_listener.Echo.{Echo}
+use Rattle.suite_run.specs.declared.run_listener.Said.{Said}
+use Rattle.suite_run.specs.declared.run_listener.Shown.{Shown}
 use Rattle.suite_run.specs.declared.lines.Hearing.{Hearing}
-use Rattle.suite_run.specs.declared.recording.LanesRefusal.{LanesRefusal}
-use Rattle.suite_run.specs.declared.recording.LanesRefusal.TheVariants.{Shelf, NoMemory}
+use Rattle.suite_run.specs.declared.lane_recorder.LanesRefusal.{LanesRefusal}
+use Rattle.suite_run.specs.declared.lane_recorder.LanesRefusal.TheVariants.{Shelf, NoMemory}
 use Rattle.suite_run.proofs.EarLemmas.{began_aloud, own_pieces}
 use Rattle.worker_lane.specs.declared.lot.Lot.{Lot}
 use Rattle.worker_mux.specs.Callers.{KeepsTape, Tape, WasHanded, tape}
@@ -37,7 +37,7 @@ use Rattle.worker_mux.proofs.Adding.{handed_weaker}
 
 module _ (filter_tags : List (List ℕ)) (shown : Shown) (rests : List (Option (List Lot))) (old new : Tape) (before : Sinks) (now : Voices) (end : List ℕ) where
   -- the events of a merge were heard and said
-  merge_aloud : (echo : Echo) (begun : Hearing) (first : Voices) (hearing : Hearing) (summary : Summary) → shown.echo ≡ echo → Hears filter_tags shown begun [] before first → Closes hearing end (Ok summary)
+  merge_aloud : (echo : Echo) (begun : Hearing) (first : Voices) (hearing : Hearing) (summary : Summary) → shown.echo ≡ echo → Hears filter_tags shown begun [] before first → ClosesHearing hearing end (Ok summary)
       → HearsMerge (HearsSince echo begun first hearing now) rests old new → AddsSaid shown filter_tags rests old new before now end summary
   merge_aloud echo begun first hearing summary same nothing closes all =
       let events : List Event = all.merge.events in
@@ -59,7 +59,7 @@ module _ (filter_tags : List (List ℕ)) (shown : Shown) (rests : List (Option (
       }
 
   pub sums_aloud : (Heard : List (List ℕ) → Type 0) (echo : Echo) (begun : Hearing) (first : Voices) (hearing : Hearing) (fault : Option ShelfCall) (done : Result (Unit {0}) memory.NoMemory) (answer : Result Summary LanesRefusal) → OnOk done (fault ≡ None → HearsMerge Heard rests old new)
-      → Answers fault done hearing end answer → shown.echo ≡ echo → Hears filter_tags shown begun [] before first → ((pieces : List (List ℕ)) → Heard pieces → HearsSince echo begun first hearing now pieces) → IfOk answer (AddsSaid shown filter_tags rests old new before now end)
+      → AnswersLanes fault done hearing end answer → shown.echo ≡ echo → Hears filter_tags shown begun [] before first → ((pieces : List (List ℕ)) → Heard pieces → HearsSince echo begun first hearing now pieces) → IfOk answer (AddsSaid shown filter_tags rests old new before now end)
   sums_aloud Heard echo begun first hearing (Some call) done answer merged answers same nothing weaker = rw answers.0 tt
   sums_aloud Heard echo begun first hearing None (Err lack) answer merged answers same nothing weaker = rw answers.0 tt
   sums_aloud Heard echo begun first hearing None (Ok unit) (Err refusal) merged answers same nothing weaker = tt
@@ -82,14 +82,14 @@ only_aloud filter_tags shown rests old new before after said (Ok summary) aloud 
 only_aloud filter_tags shown rests old new before after said (Err refusal) aloud = tt
 
 -- at each other exit there is no end
-no_end : (hearing : Hearing) (fault : Option ShelfCall) (done : Result (Unit {0}) memory.NoMemory) (end : List ℕ) (refusal : LanesRefusal) → Answers fault done hearing end (Err refusal) → end ≡ []
+no_end : (hearing : Hearing) (fault : Option ShelfCall) (done : Result (Unit {0}) memory.NoMemory) (end : List ℕ) (refusal : LanesRefusal) → AnswersLanes fault done hearing end (Err refusal) → end ≡ []
 no_end hearing (Some call) done end refusal answers = answers.1
 no_end hearing None (Err lack) end refusal answers = answers.1
 no_end hearing None (Ok unit) end refusal answers = answers.refused
 
 module _ (filter_tags : List (List ℕ)) (shown : Shown) (old : Option Folder) (new : Tape) (before after : Sinks) (said : Said) where
   pub refused_aloud : (Kept : List (List ℕ) → Type 0) (echo : Echo) (begun : Hearing) (first : Voices) (hearing : Hearing) (fault : Option ShelfCall) (done : Result (Unit {0}) memory.NoMemory) (answer : Result Summary LanesRefusal) → WasHanded Kept old new
-      → Answers fault done hearing said.end.items answer → shown.echo ≡ echo → Hears filter_tags shown begun [] before first → ((pieces : List (List ℕ)) → Kept pieces → SaysSince echo begun first (last_voices after said) pieces) → IfErr answer (λ _. BeganAloud shown old new.folder.told before after said)
+      → AnswersLanes fault done hearing said.end.items answer → shown.echo ≡ echo → Hears filter_tags shown begun [] before first → ((pieces : List (List ℕ)) → Kept pieces → SaysSince echo begun first (last_voices after said) pieces) → IfErr answer (λ _. BeganAloud shown old new.folder.told before after said)
   refused_aloud Kept echo begun first hearing fault done (Ok summary) handed answers same nothing weaker = tt
   refused_aloud Kept echo begun first hearing fault done (Err refusal) handed answers same nothing weaker =
       began_aloud echo begun first filter_tags shown before after said old new same nothing (no_end hearing fault done said.end.items refusal answers)
@@ -97,7 +97,7 @@ module _ (filter_tags : List (List ℕ)) (shown : Shown) (old : Option Folder) (
 
 -- ---- the whole step
 
-pub decided : (hearing : Hearing) (end : List ℕ) (fault : Option ShelfCall) (done : Result (Unit {0}) memory.NoMemory) (answer : Result Summary LanesRefusal) → Answers fault done hearing end answer → IsDecidedBy fault answer
+pub decided : (hearing : Hearing) (end : List ℕ) (fault : Option ShelfCall) (done : Result (Unit {0}) memory.NoMemory) (answer : Result Summary LanesRefusal) → AnswersLanes fault done hearing end answer → IsDecidedBy fault answer
 decided hearing end (Some call) done answer answers = rw answers.0 refl
 decided hearing end None (Err lack) answer answers = rw answers.0 refl
 decided hearing end None (Ok unit) (Ok summary) answers = refl

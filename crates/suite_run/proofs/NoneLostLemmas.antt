@@ -13,8 +13,8 @@ use Rattle.edge_io.specs.declared.child.Finish.{Finish}
 use Rattle.edge_io.specs.declared.child.Finish.TheVariants as finish
 use Rattle.outcome_fold.specs.Answers.{ids_of}
 use Rattle.outcome_fold.specs.Order.{text_cmp, test_cmp, among}
-use Rattle.outcome_fold.specs.Parts.{test_of, speaks_of, events_of_test, completes, last_part}
-use Rattle.outcome_fold.specs.Rows.{is_part, is_open, is_row_of, rows_of}
+use Rattle.outcome_fold.specs.Parts.{test_of, speaks_of, events_of_test, has_end_status, last_part}
+use Rattle.outcome_fold.specs.Rows.{has_events, is_open, is_row_of, rows_of}
 use Rattle.outcome_fold.specs.declared.row.Row.{Row}
 use Rattle.outcome_fold.specs.declared.test_key.TestKey.{TestKey}
 use Rattle.outcome_fold.proofs.LawLemmas.{parts_count}
@@ -25,7 +25,7 @@ use Rattle.packet_codec.specs.Lanes.{IsMerge, of_lane, is_of_lane}
 use Rattle.packet_codec.specs.declared.event.Event.{Event}
 use Rattle.suite_run.specs.NoneLost.{HasRow, LosesNone, AreAllShort, LoseNone}
 use Rattle.worker_lane.specs.Endings.{ending_of}
-use Rattle.worker_lane.specs.Lost.{is_id, longest_id, names, named_ids}
+use Rattle.worker_lane.specs.Lost.{is_id, longest_id, is_of_id, named_ids}
 use Rattle.worker_lane.specs.Sought.{AreShort}
 use Rattle.worker_lane.specs.Rest.{stream_events}
 use Rattle.worker_lane.specs.declared.lot.Ending.TheVariants.{Exit, Fault, NoMemory}
@@ -90,26 +90,26 @@ counted_any p (x ∷ xs) some = by_test (p x) (counted_any p xs) refl
         let left : 0 < count_by p xs = omega (arith, none, some, counted_more p x xs) in
         any_more p x xs (others left)
 
-any_part : (p : Event → Bool) (es : List Event) → list_any p es ≡ true → is_part (filter p es) ≡ true
+any_part : (p : Event → Bool) (es : List Event) → list_any p es ≡ true → has_events (filter p es) ≡ true
 any_part p [] any = absurd (cc)
 any_part p (e ∷ es) any = by_test (p e) (any_part p es) refl
   where
-    by_test : (b : Bool) → (list_any p es ≡ true → is_part (filter p es) ≡ true) → p e ≡ b → is_part (filter p (e ∷ es)) ≡ true
-    by_test true others is = ap (λ c. is_part (cond c (e ∷ filter p es) (filter p es))) is
-    by_test false others is = ap (λ c. is_part (cond c (e ∷ filter p es) (filter p es))) is ∙ others (ap (λ c. c || list_any p es) (sym is) ∙ any)
+    by_test : (b : Bool) → (list_any p es ≡ true → has_events (filter p es) ≡ true) → p e ≡ b → has_events (filter p (e ∷ es)) ≡ true
+    by_test true others is = ap (λ c. has_events (cond c (e ∷ filter p es) (filter p es))) is
+    by_test false others is = ap (λ c. has_events (cond c (e ∷ filter p es) (filter p es))) is ∙ others (ap (λ c. c || list_any p es) (sym is) ∙ any)
 
 -- ---- a test that an event speaks of has a row
 
 -- some events of a test are a part that is completed, or one that is open
-some_part : (events : List Event) → is_part events ≡ true → 0 < count_by completes events + cond (is_part (last_part events)) 1 0
+some_part : (events : List Event) → has_events events ≡ true → 0 < count_by has_end_status events + cond (has_events (last_part events)) 1 0
 some_part [] is = absurd (cc)
-some_part (e ∷ es) is = by_test (list_any completes (e ∷ es)) refl
+some_part (e ∷ es) is = by_test (list_any has_end_status (e ∷ es)) refl
   where
-    by_test : (b : Bool) → list_any completes (e ∷ es) ≡ b → 0 < count_by completes (e ∷ es) + cond (is_part (last_part (e ∷ es))) 1 0
+    by_test : (b : Bool) → list_any has_end_status (e ∷ es) ≡ b → 0 < count_by has_end_status (e ∷ es) + cond (has_events (last_part (e ∷ es))) 1 0
     by_test true any =
-        let some : 0 < count_by completes (e ∷ es) = any_counted completes (e ∷ es) any in
+        let some : 0 < count_by has_end_status (e ∷ es) = any_counted has_end_status (e ∷ es) any in
         omega (arith, some)
-    by_test false any = subst (λ c. 0 < count_by completes (e ∷ es) + cond (is_part (cond c (last_part es) (e ∷ es))) 1 0) (sym any) (omega arith)
+    by_test false any = subst (λ c. 0 < count_by has_end_status (e ∷ es) + cond (has_events (cond c (last_part es) (e ∷ es))) 1 0) (sym any) (omega arith)
 
 same_test : (test : TestKey) → eq_by_cmp test_cmp test test ≡ true
 same_test test = (eq_by_cmp_equiv tests_total).refl test
@@ -128,9 +128,9 @@ record IsSpokenOf (id : List ℕ) (events : List Event) : Type 0 where
   id_is : test.id ≡ id
   spoken : list_any (λ e. speaks_of test (test_of e)) events ≡ true
 
-spoken_of : (id : List ℕ) (events : List Event) → list_any (names id) events ≡ true → IsSpokenOf id events
+spoken_of : (id : List ℕ) (events : List Event) → list_any (is_of_id id) events ≡ true → IsSpokenOf id events
 spoken_of id [] any = absurd (cc)
-spoken_of id (e ∷ es) any = elim (any_of (names id) e es (names id e) refl any) [
+spoken_of id (e ∷ es) any = elim (any_of (is_of_id id) e es (is_of_id id e) refl any) [
   | inl first ↦ (
       let test : TestKey = record { route = e.route; id = id } in
       record { test = test; id_is = refl; spoken = any_first (λ e. speaks_of test (test_of e)) e es (speaks_by id e.route e.id first) }
@@ -151,19 +151,19 @@ row_among test (row ∷ rows) any = elim (any_of (is_row_of test) row rows (is_r
   | inr other ↦ any_more (eq_by_cmp text_cmp test.id) row.id (ids_of rows) (row_among test rows other)
 ]
 
-pub has_row : (id : List ℕ) (events : List Event) → list_any (names id) events ≡ true → HasRow (rows_of events) id
+pub has_row : (id : List ℕ) (events : List Event) → list_any (is_of_id id) events ≡ true → HasRow (rows_of events) id
 has_row id events any =
     let found = spoken_of id events any in
-    let some : 0 < count_by completes (events_of_test found.test events) + cond (is_open events found.test) 1 0 = some_part (events_of_test found.test events) (any_part (λ e. speaks_of found.test (test_of e)) events found.spoken) in
+    let some : 0 < count_by has_end_status (events_of_test found.test events) + cond (is_open events found.test) 1 0 = some_part (events_of_test found.test events) (any_part (λ e. speaks_of found.test (test_of e)) events found.spoken) in
     let counted : 0 < count_by (is_row_of found.test) (rows_of events) = subst (λ n. 0 < n) (sym (parts_count events found.test)) some in
     subst (HasRow (rows_of events)) found.id_is (row_among found.test (rows_of events) (counted_any (is_row_of found.test) (rows_of events) counted))
 
 -- ---- no test of a job is lost
 
-all_rows : (lane : ℕ) (events list : List Event) (ids : List (List ℕ)) → of_lane lane events ≡ list → AllByRecursion (λ id. list_any (names id) list ≡ true) ids → AllByRecursion (HasRow (rows_of events)) ids
+all_rows : (lane : ℕ) (events list : List Event) (ids : List (List ℕ)) → of_lane lane events ≡ list → AllByRecursion (λ id. list_any (is_of_id id) list ≡ true) ids → AllByRecursion (HasRow (rows_of events)) ids
 all_rows lane events list [] is all = tt
 all_rows lane events list (id ∷ ids) is all = (
-  has_row id events (any_kept (names id) (is_of_lane lane) events (ap (list_any (names id)) is ∙ all.0)),
+  has_row id events (any_kept (is_of_id id) (is_of_lane lane) events (ap (list_any (is_of_id id)) is ∙ all.0)),
   all_rows lane events list ids is all.1,
 )
 

@@ -10,8 +10,8 @@ use Rattle.edge_io.specs.Spawners.{Spawning, Starts}
 use Rattle.edge_io.specs.Steps.{Goes, Stays}
 use Rattle.edge_io.specs.declared.job.Job.{Job}
 use Rattle.suite_run.specs.Starting.{StartsAll, HasStarted, StartsSome, StartsNext, start_failed}
-use Rattle.suite_run.specs.declared.starting.StartRefusal.{StartRefusal}
-use Rattle.suite_run.specs.declared.starting.StartRefusal.TheVariants.{Spawn, NoMemory}
+use Rattle.suite_run.specs.declared.lane_starter.StartRefusal.{StartRefusal}
+use Rattle.suite_run.specs.declared.lane_starter.StartRefusal.TheVariants.{Spawn, NoMemory}
 use Rattle.worker_lane.specs.Rest.{lots_asked}
 use Rattle.worker_lane.specs.declared.lot.Lot.{Lot}
 use Rattle.worker_mux.specs.Outputs.{AreAllTexts, other_ids, ids_at, lots_asked_from}

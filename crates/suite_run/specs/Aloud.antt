@@ -4,7 +4,7 @@ use Rattle.std.specs.List.{filter, flat_map}
 use Rattle.edge_io.specs.Disk.{Folder}
 use Rattle.edge_io.specs.Seen.{Seen}
 use Rattle.edge_io.specs.Steps.{Goes, Grown}
-use Rattle.live_text.specs.Live.{live_so_far, live_rows, live_end, behind, marks_a_line, rows_done}
+use Rattle.live_text.specs.Live.{live_so_far, live_rows, live_end, printed_behind, marks_a_line, rows_done}
 use Rattle.live_text.specs.declared.live.Live.{Live}
 use Rattle.outcome_fold.specs.Rows.{open_rows}
 use Rattle.outcome_fold.specs.Summed.{Sums}
@@ -17,10 +17,10 @@ use Rattle.packet_codec.specs.declared.event.Event.{Event}
 use Rattle.run_ledger.specs.Writing.{HasHeardEvents}
 use Rattle.speaker.specs.Speaking.{Takes}
 use Rattle.suite_run.specs.Recording.{AddsRows}
-use Rattle.suite_run.specs.declared.ear.Echo.{Echo}
-use Rattle.suite_run.specs.declared.ear.Echo.TheVariants.{Nothing, Packets}
-use Rattle.suite_run.specs.declared.ear.Said.{Said}
-use Rattle.suite_run.specs.declared.ear.Shown.{Shown}
+use Rattle.suite_run.specs.declared.run_listener.Echo.{Echo}
+use Rattle.suite_run.specs.declared.run_listener.Echo.TheVariants.{Nothing, Packets}
+use Rattle.suite_run.specs.declared.run_listener.Said.{Said}
+use Rattle.suite_run.specs.declared.run_listener.Shown.{Shown}
 use Rattle.suite_run.specs.declared.lines.Hearing.{Hearing}
 use Rattle.suite_run.specs.declared.lines.Lines.{Lines}
 use Rattle.worker_lane.specs.declared.lot.Lot.{Lot}
@@ -58,8 +58,8 @@ pub record SaysUpTo (shown : Shown) (events : List Event) (before : Sinks) (now 
   pub out : Takes (echoed shown.echo events) before.out now.out now.out_failed
 
 -- the same, by what is told of it
-abbrev pub Says : Shown → List Event → (before after : Sinks) → Said → Type 0
-Says shown events before after said = SaysUpTo shown events before (voices after.errors after.out said.errors_failed said.out_failed)
+abbrev pub SaysAsTold : Shown → List Event → (before after : Sinks) → Said → Type 0
+SaysAsTold shown events before after said = SaysUpTo shown events before (voices after.errors after.out said.errors_failed said.out_failed)
 
 -- Behind the draft stand the packets of a merge, whose events were said. This is kept of their rows, and the end of the lines
 -- is left to say.
@@ -67,7 +67,7 @@ pub record AddsAloud (shown : Shown) (filter_tags : List (List ℕ)) (rests : Li
   pub rows : List Row
   pub adds : AddsRows rests old new rows
   pub sums : Sums filter_tags rows summary
-  pub says : Says shown adds.merge.events before after said
+  pub says : SaysAsTold shown adds.merge.events before after said
   pub end : said.end.items ≡ live_end shown.live (length (rows_done adds.merge.events)) (open_rows adds.merge.events)
 
 -- the same by what is seen of the sinks at the end, and by at most one call of the folder for each packet
@@ -88,7 +88,7 @@ pub record BeganAloud (shown : Shown) (old new : Option Folder) (before after : 
   pub are_events : All IsEvent (events ++ unsaid)
   pub fit : All Fits (events ++ unsaid)
   pub added : Goes old new (Grown (flat_map canonical (events ++ unsaid) ++ part))
-  pub says : Says shown events before after said
+  pub says : SaysAsTold shown events before after said
   pub no_end : said.end.items ≡ []
 
 -- ---- what is heard
@@ -97,7 +97,7 @@ pub record BeganAloud (shown : Shown) (old new : Option Folder) (before after : 
 pub record Gathered (begun lines : Lines) (rows : List Row) : Type 0 where
   pub kind : lines.kind ≡ begun.kind
   pub text : (before : ℕ) → begun.column ≡ before % marks_a_line → lines.text.items ≡ begun.text.items ++ live_rows begun.kind before rows
-  pub column : (before : ℕ) → begun.column ≡ before % marks_a_line → lines.column ≡ behind before rows % marks_a_line
+  pub column : (before : ℕ) → begun.column ≡ before % marks_a_line → lines.column ≡ printed_behind before rows % marks_a_line
 
 -- the lines that were gathered and not said
 abbrev pub unsaid : Hearing → List ℕ

@@ -13,7 +13,7 @@ use Rattle.worker_mux.specs.Outputs.{lists_asked}
 -- Behind the draft stand the packets of events, which are those of the outputs, merged: the first output is recorded under
 -- lane 0, the next one under lane 1, and so on. Read as a stream, the packets are these events. The jobs of
 -- the children name these ids.
-pub record AddsRun (asked : List (List (List ℕ))) (outputs : List Output) (old new : Option Folder) : Type 0 where
+pub record AddsMergedOutputs (asked : List (List (List ℕ))) (outputs : List Output) (old new : Option Folder) : Type 0 where
   pub events : List Event
   pub added : Goes old new (Grown (flat_map canonical events))
   pub merge : IsMerge events (lists_asked 0 asked outputs)

@@ -13,13 +13,13 @@ use Rattle.packet_codec.specs.Canonical.{canonical, IsEvent, Fits}
 use Rattle.packet_codec.specs.declared.event.Event.{Event}
 use Rattle.packet_codec.specs.Lanes.{joined}
 use Rattle.run_ledger.specs.Reading.{AreRowsOf}
-use Rattle.run_ledger.specs.Writing.{HasWritten}
+use Rattle.run_ledger.specs.Writing.{HasWrittenRun}
 use Rattle.run_ledger.specs.declared.written_run.WrittenRun.{WrittenRun}
 use Rattle.run_shelf.specs.Drafts.{SameButDraft}
 use Rattle.run_shelf.specs.declared.faults.ShelfCall.{ShelfCall}
 use Rattle.run_shelf.specs.declared.faults.ShelfCall.TheVariants.{Append}
-use Rattle.suite_run.specs.declared.recording.LanesRefusal.{LanesRefusal}
-use Rattle.suite_run.specs.declared.recording.LanesRefusal.TheVariants.{Shelf, NoMemory}
+use Rattle.suite_run.specs.declared.lane_recorder.LanesRefusal.{LanesRefusal}
+use Rattle.suite_run.specs.declared.lane_recorder.LanesRefusal.TheVariants.{Shelf, NoMemory}
 use Rattle.worker_lane.specs.declared.lot.Lot.{Lot}
 use Rattle.worker_mux.specs.Callers.{Tape}
 use Rattle.worker_mux.specs.Runs.{AddsMerge}

@@ -9,8 +9,8 @@ use Rattle.edge_io.specs.Seen.{Seen}
 use Rattle.edge_io.specs.Spawners.{Spawning, Starts}
 use Rattle.edge_io.specs.Steps.{Goes}
 use Rattle.edge_io.specs.declared.job.Job.{Job}
-use Rattle.suite_run.specs.declared.starting.StartRefusal.{StartRefusal}
-use Rattle.suite_run.specs.declared.starting.StartRefusal.TheVariants.{Spawn, NoMemory}
+use Rattle.suite_run.specs.declared.lane_starter.StartRefusal.{StartRefusal}
+use Rattle.suite_run.specs.declared.lane_starter.StartRefusal.TheVariants.{Spawn, NoMemory}
 use Rattle.worker_lane.specs.Lanes.{rest}
 use Rattle.worker_lane.specs.Rest.{lots_asked}
 use Rattle.worker_lane.specs.declared.lane.Lane.{Lane}

@@ -9,7 +9,7 @@ ghost use Rattle.outcome_fold.specs.Rows.{rows_of};
 ghost use Rattle.packet_codec.specs.Lanes.{IsMerge};
 ghost use Rattle.packet_codec.specs.declared.event.Event.{Event};
 ghost use Rattle.suite_run.specs.NoneLost.{AreAllShort, LoseNone};
-ghost use Rattle.suite_run.specs.Outputs.{AddsRun};
+ghost use Rattle.suite_run.specs.Outputs.{AddsMergedOutputs};
 ghost use Rattle.suite_run.specs.Starting.{HasStarted};
 ghost use Rattle.worker_lane.specs.declared.lot.Lot.{Lot};
 ghost use Rattle.worker_mux.specs.Outputs.{lists_asked};
@@ -18,7 +18,7 @@ ghost use Rattle.worker_mux.specs.Runs.{AddsMerge};
 /// Laws of a run of jobs, at most 64, over a spawner that tells the outputs of its children.
 pub fn outputs_are_recorded()
     // What is added to the draft is a merge of what is recorded of each output.
-    ensures recorded { (jobs : List Job) (asked : List (List (List ℕ))) (rests : List (Option (List Lot))) (s t : Spawning) (old new : Option Folder) → length jobs ≤ 64 → (started : HasStarted jobs asked rests s t) → AddsMerge rests old new → AddsRun asked started.outputs old new }
+    ensures recorded { (jobs : List Job) (asked : List (List (List ℕ))) (rests : List (Option (List Lot))) (s t : Spawning) (old new : Option Folder) → length jobs ≤ 64 → (started : HasStarted jobs asked rests s t) → AddsMerge rests old new → AddsMergedOutputs asked started.outputs old new }
     // There is a list for each job.
     ensures lists { (jobs : List Job) (asked : List (List (List ℕ))) (rests : List (Option (List Lot))) (s t : Spawning) → (started : HasStarted jobs asked rests s t) → length (lists_asked 0 asked started.outputs) ≡ length jobs }
 {}

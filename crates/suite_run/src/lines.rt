@@ -1,7 +1,7 @@
 //! The lines of a run that is heard as it is recorded, and what is kept of its rows.
 
 ghost use Rattle.std.specs.Prelude.{◌≡◌, ◌++◌, ◌+◌, ◌%◌, [], ℕ, List, length, IfOk, OnOk};
-ghost use Rattle.live_text.specs.Live.{end_of, live_end, marks_a_line, rows_done};
+ghost use Rattle.live_text.specs.Live.{end_behind_rows, live_end, marks_a_line, rows_done};
 ghost use Rattle.live_text.specs.declared.live.Live.{Live as ALive};
 ghost use Rattle.outcome_fold.specs.Answers.{is_run as spec_is_run};
 ghost use Rattle.outcome_fold.specs.Rows.{open_rows, rows_of};
@@ -64,7 +64,7 @@ impl RowListener for Lines {
 impl Lines {
     // Appends the end of the last line, where marks stand in it.
     fn end(&mut self) -> Result<(), NoMemory>
-        ensures { (kind : ALive) (before : ℕ) → self.old.kind ≡ kind → self.old.column ≡ before % marks_a_line → OnOk result (self.new.text.items ≡ self.old.text.items ++ end_of kind before) }
+        ensures { (kind : ALive) (before : ℕ) → self.old.kind ≡ kind → self.old.column ≡ before % marks_a_line → OnOk result (self.new.text.items ≡ self.old.text.items ++ end_behind_rows kind before) }
     {
         if self.kind == Live::Dots && self.column != 0 {
             self.text.push(b'\n')?;

@@ -5,7 +5,7 @@ ghost use Rattle.std.specs.Prelude.{◌≤◌, length};
 use edge_io::{Finish, Plan, PlanSpawner};
 use std::alloc::Global;
 use sub_number::{Bytes, IdList, Text};
-use suite_plan::{CallRefusal, ListingRefusal, call_out, firsts, list_tests};
+use suite_plan::{CallRefusal, ListingRefusal, first_of_each, list_tests, run_count_command};
 use testr_conf::Conf;
 
 const CONF: &[u8] =
@@ -187,7 +187,7 @@ fn a_listing_that_is_not_started(rt: HostRuntime) {
 
 fn call(alloc: Global, spawner: &mut PlanSpawner) -> Option<Result<u32, Why>> {
     let conf = conf_of(alloc, CONF)?;
-    match call_out(alloc, &conf, spawner) {
+    match run_count_command(alloc, &conf, spawner) {
         Ok(Some(number)) => Some(Ok(number)),
         Ok(None) => None,
         Err(refusal) => Some(Err(why_uncalled(&refusal))),
@@ -270,7 +270,7 @@ fn an_ending_of_another_kind_is_no_number(rt: HostRuntime) {
 fn called_without_child(alloc: Global, text: &[u8]) -> Option<Result<Option<u32>, Why>> {
     let conf = conf_of(alloc, text)?;
     let mut spawner = PlanSpawner::new(alloc, Vec::new(alloc), Vec::new(alloc));
-    let answer = call_out(alloc, &conf, &mut spawner);
+    let answer = run_count_command(alloc, &conf, &mut spawner);
     if !spawner.started().is_empty() {
         return None;
     }
@@ -297,7 +297,7 @@ fn letters_of(alloc: Global, letters: &[u8]) -> Option<IdList> {
 // The first of the ids, which are letters.
 fn firsts_of(alloc: Global, letters: &[u8]) -> Option<Vec<u8>> {
     let ids = letters_of(alloc, letters)?;
-    let firsts = firsts(alloc, ids).ok()?;
+    let firsts = first_of_each(alloc, ids).ok()?;
     spaced(alloc, &firsts)
 }
 

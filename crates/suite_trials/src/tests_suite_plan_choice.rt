@@ -3,7 +3,7 @@
 ghost use Rattle.std.specs.Prelude.{◌≤◌, IfSome};
 ghost use Rattle.std.specs.List.{IsDistinct};
 ghost use Rattle.std.specs.Str.{bytes_eq};
-ghost use Rattle.suite_plan.specs.declared.sharing.TheConstants.{MOST_WORKERS};
+ghost use Rattle.suite_plan.specs.declared.worker_shares.TheConstants.{MOST_WORKERS};
 
 use edge_io::Job;
 use partition_times::{Filters, Groups};
@@ -11,8 +11,8 @@ use std::alloc::Global;
 use std::test::Fail;
 use sub_number::{IdList, Text, TimeMap};
 use suite_plan::{
-    FurtherPicks, PatternRefusal, Picks, chosen, compile, firsts, jobs_of_lanes, keep_shard,
-    share_out,
+    FurtherPicks, PatternRefusal, Picks, chosen_ids, compile_picks, first_of_each, ids_of_shard,
+    jobs_of_lanes, share_out_ids,
 };
 use testr_conf::{Conf, JobFault, Key};
 use testr_words::Shard;
@@ -81,7 +81,7 @@ fn shares_of(
     let ids = ids_of(alloc, ids)?;
     let times = times_of(alloc, times)?;
     let groups = groups_of(alloc, regex)?;
-    share_out(alloc, ids, &times, &groups, workers).ok()
+    share_out_ids(alloc, ids, &times, &groups, workers).ok()
 }
 
 fn are_shares(shares: &Option<Vec<IdList>>, wanted: &[&str]) -> bool {
@@ -234,7 +234,7 @@ fn shard_of(
     let ids = ids_of(alloc, ids)?;
     let times = times_of(alloc, times)?;
     let groups = groups_of(alloc, regex)?;
-    keep_shard(alloc, ids, &times, &groups, Some(shard)).ok()
+    ids_of_shard(alloc, ids, &times, &groups, Some(shard)).ok()
 }
 
 #[test]
@@ -306,7 +306,7 @@ fn listing_of(alloc: Global, texts: Option<&str>) -> Option<Option<IdList>>
     ensures { IfSome result (λ ids. IfSome ids (IsDistinct bytes_eq)) }
 {
     match texts {
-        Some(texts) => Some(Some(firsts(alloc, ids_of(alloc, texts)?).ok()?)),
+        Some(texts) => Some(Some(first_of_each(alloc, ids_of(alloc, texts)?).ok()?)),
         None => Some(None),
     }
 }
@@ -326,7 +326,7 @@ fn chosen_by(
     let failing = maybe_ids(alloc, given.0)?;
     let listed = maybe_ids(alloc, given.1)?;
     let listing = listing_of(alloc, given.2)?;
-    chosen(alloc, failing, listed, listing, picks, further).ok()
+    chosen_ids(alloc, failing, listed, listing, picks, further).ok()
 }
 
 // Whether these ids are chosen, and are given at all.
@@ -393,7 +393,7 @@ fn is_bad(
 ) -> Option<bool> {
     let including = ids_of(alloc, including)?;
     let excluding = ids_of(alloc, excluding)?;
-    match compile(alloc, &including, &excluding, regex) {
+    match compile_picks(alloc, &including, &excluding, regex) {
         Ok(_) => Some(wanted.is_empty()),
         Err(PatternRefusal::Bad(text)) => Some(are_same(text, wanted)),
         Err(PatternRefusal::NoMemory) => None,

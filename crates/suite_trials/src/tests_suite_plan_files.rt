@@ -67,7 +67,7 @@ fn a_configuration_is_read_from_its_file(rt: HostRuntime) -> Result<(), Fail> {
 // Whether this is the command of the id `a` on lane 0, of a project in this folder.
 fn runs_in(alloc: Global, folder: &[u8], command: &[u8]) -> Option<bool> {
     let mut site = site(alloc, CONF, LOADS, &[])?;
-    site.stand_in(Text::new(alloc, folder).ok()?);
+    site.place_in(Text::new(alloc, folder).ok()?);
     let conf = read_conf(alloc, Face::Testr, &ProjectWords::none(alloc), &mut site).ok()?;
     let mut ids = IdList::new(alloc);
     ids.push(Text::new(alloc, b"a").ok()?).ok()?;

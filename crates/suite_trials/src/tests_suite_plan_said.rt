@@ -3,7 +3,7 @@
 use edge_io::{Finish, Plan, PlanSpawner};
 use std::alloc::Global;
 use sub_number::Bytes;
-use suite_plan::{CallRefusal, ListingRefusal, call_out, list_tests};
+use suite_plan::{CallRefusal, ListingRefusal, list_tests, run_count_command};
 use testr_conf::Conf;
 use trial_events::{file_event, repeated, spelled};
 
@@ -76,7 +76,7 @@ fn is_said(alloc: Global, output: &[u8], piece: usize, wanted: &[u8]) -> Option<
 fn said_of_count(alloc: Global, output: &[u8]) -> Option<Bytes> {
     let conf = conf_of(alloc, CONF)?;
     let mut spawner = failing_child(alloc, output, 7)?;
-    match call_out(alloc, &conf, &mut spawner) {
+    match run_count_command(alloc, &conf, &mut spawner) {
         Err(CallRefusal::NoNumber(said)) => Some(said),
         _ => None,
     }

@@ -2,7 +2,8 @@
 use Rattle.std.proofs.Common.{◌≡◌, ℕ, zero, suc, List, [], ◌∷◌, ◌++◌, take, refl, ◌∙◌, ap, append_assoc}
 use Rattle.std.proofs.lemmas.List.{flat_map_more}
 use Rattle.std.specs.List.{flat_map}
-use Rattle.tap_bridge.specs.Events.{comment_of, comment_limit, with_newline, reason_line}
+use Rattle.sub_number.specs.Lines.{with_newline}
+use Rattle.tap_bridge.specs.Events.{comment_of, comment_limit, reason_line}
 
 take_twice : (n : ℕ) (xs : List ℕ) → take n (take n xs) ≡ take n xs
 take_twice zero xs = refl

@@ -4,8 +4,9 @@ use Rattle.std.specs.Prelude.{codes}
 use Rattle.std.proofs.lemmas.Bool.{and_parts, cases_Bool, cases_lt}
 use Rattle.std.proofs.lemmas.List.{get_or-drop}
 use Rattle.memchr.specs.Find.{Passes, is_byte}
+use Rattle.sub_number.specs.Lines.{begins}
 use Rattle.tap_bridge.specs.Blanks.{begins_blank, trim_start}
-use Rattle.tap_bridge.specs.Grammar.{begins, directive_word, directive_at, directive_place}
+use Rattle.tap_bridge.specs.Grammar.{directive_word, directive_at, directive_place}
 
 chosen : {X : Type 0} (b : Bool) (o : Option X) → is_some (cond b o None) ≡ true → b ≡ true
 chosen true o is = refl

@@ -7,13 +7,14 @@ use Rattle.std.proofs.lemmas.List.Elements.{filter-append, filter_map-append}
 use Rattle.std.proofs.lemmas.List.Sums.{fold_push}
 use Rattle.std.specs.List.{suffix_len, prefix_len, before_last, after_last, filter, filter_map, last_or}
 use Rattle.std.specs.Option.{option_map, option_to_list}
+use Rattle.sub_number.specs.Lines.{begins, without_return, with_newline}
 use Rattle.tap_bridge.specs.declared.plan.Plan.{Plan}
 use Rattle.tap_bridge.specs.declared.waiting_test.Waiting.{Waiting as Kept}
 use Rattle.tap_bridge.specs.declared.reader.TapReader.{TapReader}
 use Rattle.tap_bridge.specs.Blanks.{trim}
-use Rattle.tap_bridge.specs.Grammar.{Test, TapLine, plan, test, comment, bail_out, other, begins, plan_of, test_line_of, line_with, tap_line_of}
-use Rattle.tap_bridge.specs.Events.{Input, line, too_long, longest_line, without_return, one_more, number_in, number_after, next_number, planned, is_awaited, is_heading, comment_in, waiting_with, waiting, with_newline, comment_limit, events_at, events_behind, events_so_far, input_of}
-use Rattle.tap_bridge.specs.Kept.{HasHeardLines, HasRead, kept_of}
+use Rattle.tap_bridge.specs.Grammar.{Test, TapLine, plan, test, comment, bail_out, other, plan_of, test_line_of, line_with, tap_line_of}
+use Rattle.tap_bridge.specs.Events.{TapInput, line, too_long, longest_tap_line, one_more, number_in, number_after, next_number, planned, is_awaited, is_heading, comment_in, waiting_with, waiting, comment_limit, events_at, tap_events_behind, tap_events_so_far, input_of}
+use Rattle.tap_bridge.specs.Kept.{HasTakenLines, HasReadLines, kept_waiting}
 use Rattle.tap_bridge.proofs.CommentLemmas.{comment_push}
 
 -- The last heading.
@@ -61,21 +62,21 @@ last_push o (y ∷ xs) x = last_push (Some y) xs x
 
 -- The waiting test.
 
-waiting_heading : (before : List Input) (x : Input) → is_heading x ≡ true → waiting (before ++ x ∷ []) ≡ waiting_with (next_number before) [] (Some x)
+waiting_heading : (before : List TapInput) (x : TapInput) → is_heading x ≡ true → waiting (before ++ x ∷ []) ≡ waiting_with (next_number before) [] (Some x)
 waiting_heading before x is =
     let front = before_heading is_heading before x is in
     let behind = after_heading is_heading before x is in
     let last = ap (last_or None) (filter_heading is_heading before x is) ∙ last_push None (filter is_heading before) x in
     λ i. waiting_with (next_number (front i)) (behind i) (last i)
 
-waiting_other : (before : List Input) (x : Input) → is_heading x ≡ false → waiting (before ++ x ∷ []) ≡ waiting_with (next_number (before_last is_heading before)) (after_last is_heading before ++ x ∷ []) (last_or None (filter is_heading before))
+waiting_other : (before : List TapInput) (x : TapInput) → is_heading x ≡ false → waiting (before ++ x ∷ []) ≡ waiting_with (next_number (before_last is_heading before)) (after_last is_heading before ++ x ∷ []) (last_or None (filter is_heading before))
 waiting_other before x is =
     let front = before_other is_heading before x is in
     let behind = after_other is_heading before x is in
     let last = filter_other is_heading before x is in
     λ i. waiting_with (next_number (front i)) (behind i) (last_or None (last i))
 
-with_none : (next : ℕ) (ys : List Input) (x : Input) (o : Option Input) → comment_in x ≡ None → waiting_with next (ys ++ x ∷ []) o ≡ waiting_with next ys o
+with_none : (next : ℕ) (ys : List TapInput) (x : TapInput) (o : Option TapInput) → comment_in x ≡ None → waiting_with next (ys ++ x ∷ []) o ≡ waiting_with next ys o
 with_none next ys x None none = refl
 with_none next ys x (Some (line (plan p))) none = refl
 with_none next ys x (Some (line (test t))) none =
@@ -91,13 +92,13 @@ with_none next ys x (Some (too_long bytes)) none = refl
 abbrev pub commented : List ℕ → Kept → Kept
 commented bytes kept = record kept { comment = take comment_limit (kept.comment ++ with_newline bytes) }
 
-with_comment : (next : ℕ) (ys : List Input) (bytes : List ℕ) (o : Option Input) → option_map (commented bytes) (option_map kept_of (waiting_with next ys o)) ≡ option_map kept_of (waiting_with next (ys ++ line (comment bytes) ∷ []) o)
+with_comment : (next : ℕ) (ys : List TapInput) (bytes : List ℕ) (o : Option TapInput) → option_map (commented bytes) (option_map kept_waiting (waiting_with next ys o)) ≡ option_map kept_waiting (waiting_with next (ys ++ line (comment bytes) ∷ []) o)
 with_comment next ys bytes None = refl
 with_comment next ys bytes (Some (line (plan p))) = refl
 with_comment next ys bytes (Some (line (test t))) =
     let comments : filter_map comment_in (ys ++ line (comment bytes) ∷ []) ≡ filter_map comment_in ys ++ bytes ∷ [] = filter_map-append comment_in ys (line (comment bytes) ∷ []) in
-    ap (λ text. Some (record (kept_of (record { number = number_in next t; shown = t; comments = filter_map comment_in ys })) { comment = text })) (comment_push t.reason bytes (filter_map comment_in ys))
-    ∙ ap (λ cs. Some (kept_of (record { number = number_in next t; shown = t; comments = cs }))) (sym comments)
+    ap (λ text. Some (record (kept_waiting (record { number = number_in next t; shown = t; comments = filter_map comment_in ys })) { comment = text })) (comment_push t.reason bytes (filter_map comment_in ys))
+    ∙ ap (λ cs. Some (kept_waiting (record { number = number_in next t; shown = t; comments = cs }))) (sym comments)
 with_comment next ys bytes (Some (line (comment c))) = refl
 with_comment next ys bytes (Some (line (bail_out id))) = refl
 with_comment next ys bytes (Some (line (other c))) = refl
@@ -105,74 +106,74 @@ with_comment next ys bytes (Some (too_long c)) = refl
 
 -- What a reader knows.
 
-pub knows_plan : (r s : TapReader) (before : List Input) (p : Plan) → s.next ≡ r.next → s.tests ≡ Some p.tests → s.waiting ≡ None → HasHeardLines r before → HasHeardLines s (before ++ line (plan p) ∷ [])
+pub knows_plan : (r s : TapReader) (before : List TapInput) (p : Plan) → s.next ≡ r.next → s.tests ≡ Some p.tests → s.waiting ≡ None → HasTakenLines r before → HasTakenLines s (before ++ line (plan p) ∷ [])
 knows_plan r s before p next tests none known = record {
   next = next ∙ known.next ∙ sym (fold_push number_after 1 before (line (plan p)));
   tests = tests ∙ sym (fold_push planned None before (line (plan p)));
-  waits = none ∙ sym (ap (option_map kept_of) (waiting_heading before (line (plan p)) refl));
+  waits = none ∙ sym (ap (option_map kept_waiting) (waiting_heading before (line (plan p)) refl));
 }
 
-pub knows_bail_out : (r s : TapReader) (before : List Input) (id : List ℕ) → s.next ≡ r.next → s.tests ≡ r.tests → s.waiting ≡ None → HasHeardLines r before → HasHeardLines s (before ++ line (bail_out id) ∷ [])
+pub knows_bail_out : (r s : TapReader) (before : List TapInput) (id : List ℕ) → s.next ≡ r.next → s.tests ≡ r.tests → s.waiting ≡ None → HasTakenLines r before → HasTakenLines s (before ++ line (bail_out id) ∷ [])
 knows_bail_out r s before id next tests none known = record {
   next = next ∙ known.next ∙ sym (fold_push number_after 1 before (line (bail_out id)));
   tests = tests ∙ known.tests ∙ sym (fold_push planned None before (line (bail_out id)));
-  waits = none ∙ sym (ap (option_map kept_of) (waiting_heading before (line (bail_out id)) refl));
+  waits = none ∙ sym (ap (option_map kept_waiting) (waiting_heading before (line (bail_out id)) refl));
 }
 
-pub knows_test : (r s : TapReader) (before : List Input) (t : Test) → s.next ≡ max r.next (one_more (number_in r.next t)) → s.tests ≡ r.tests
-    → s.waiting ≡ Some (kept_of (record { number = number_in r.next t; shown = t; comments = [] })) → HasHeardLines r before → HasHeardLines s (before ++ line (test t) ∷ [])
+pub knows_test : (r s : TapReader) (before : List TapInput) (t : Test) → s.next ≡ max r.next (one_more (number_in r.next t)) → s.tests ≡ r.tests
+    → s.waiting ≡ Some (kept_waiting (record { number = number_in r.next t; shown = t; comments = [] })) → HasTakenLines r before → HasTakenLines s (before ++ line (test t) ∷ [])
 knows_test r s before t next tests waits known = record {
   next = next ∙ ap (λ n. max n (one_more (number_in n t))) known.next ∙ sym (fold_push number_after 1 before (line (test t)));
   tests = tests ∙ known.tests ∙ sym (fold_push planned None before (line (test t)));
-  waits = waits ∙ ap (λ n. Some (kept_of (record { number = number_in n t; shown = t; comments = [] }))) known.next ∙ sym (ap (option_map kept_of) (waiting_heading before (line (test t)) refl));
+  waits = waits ∙ ap (λ n. Some (kept_waiting (record { number = number_in n t; shown = t; comments = [] }))) known.next ∙ sym (ap (option_map kept_waiting) (waiting_heading before (line (test t)) refl));
 }
 
-pub knows_comment : (r s : TapReader) (before : List Input) (bytes : List ℕ) → s.next ≡ r.next → s.tests ≡ r.tests → s.waiting ≡ option_map (commented bytes) r.waiting → HasHeardLines r before → HasHeardLines s (before ++ line (comment bytes) ∷ [])
+pub knows_comment : (r s : TapReader) (before : List TapInput) (bytes : List ℕ) → s.next ≡ r.next → s.tests ≡ r.tests → s.waiting ≡ option_map (commented bytes) r.waiting → HasTakenLines r before → HasTakenLines s (before ++ line (comment bytes) ∷ [])
 knows_comment r s before bytes next tests waits known = record {
   next = next ∙ known.next ∙ sym (fold_push number_after 1 before (line (comment bytes)));
   tests = tests ∙ known.tests ∙ sym (fold_push planned None before (line (comment bytes)));
   waits = waits ∙ ap (option_map (commented bytes)) known.waits
       ∙ with_comment (next_number (before_last is_heading before)) (after_last is_heading before) bytes (last_or None (filter is_heading before))
-      ∙ sym (ap (option_map kept_of) (waiting_other before (line (comment bytes)) refl));
+      ∙ sym (ap (option_map kept_waiting) (waiting_other before (line (comment bytes)) refl));
 }
 
-pub knows_other : (r : TapReader) (before : List Input) (bytes : List ℕ) → HasHeardLines r before → HasHeardLines r (before ++ line (other bytes) ∷ [])
+pub knows_other : (r : TapReader) (before : List TapInput) (bytes : List ℕ) → HasTakenLines r before → HasTakenLines r (before ++ line (other bytes) ∷ [])
 knows_other r before bytes known = record {
   next = known.next ∙ sym (fold_push number_after 1 before (line (other bytes)));
   tests = known.tests ∙ sym (fold_push planned None before (line (other bytes)));
-  waits = known.waits ∙ sym (ap (option_map kept_of) (waiting_other before (line (other bytes)) refl
+  waits = known.waits ∙ sym (ap (option_map kept_waiting) (waiting_other before (line (other bytes)) refl
       ∙ with_none (next_number (before_last is_heading before)) (after_last is_heading before) (line (other bytes)) (last_or None (filter is_heading before)) refl));
 }
 
 -- bytes that are too many for a line change nothing
-pub knows_too_long : (r : TapReader) (before : List Input) (bytes : List ℕ) → HasHeardLines r before → HasHeardLines r (before ++ too_long bytes ∷ [])
+pub knows_too_long : (r : TapReader) (before : List TapInput) (bytes : List ℕ) → HasTakenLines r before → HasTakenLines r (before ++ too_long bytes ∷ [])
 knows_too_long r before bytes known = record {
   next = known.next ∙ sym (fold_push number_after 1 before (too_long bytes));
   tests = known.tests ∙ sym (fold_push planned None before (too_long bytes));
-  waits = known.waits ∙ sym (ap (option_map kept_of) (waiting_other before (too_long bytes) refl
+  waits = known.waits ∙ sym (ap (option_map kept_waiting) (waiting_other before (too_long bytes) refl
       ∙ with_none (next_number (before_last is_heading before)) (after_last is_heading before) (too_long bytes) (last_or None (filter is_heading before)) refl));
 }
 
 -- The events of all lines.
 
-behind_push : (before xs : List Input) (x : Input) → events_behind before (xs ++ x ∷ []) ≡ events_behind before xs ++ events_at (before ++ xs) x
+behind_push : (before xs : List TapInput) (x : TapInput) → tap_events_behind before (xs ++ x ∷ []) ≡ tap_events_behind before xs ++ events_at (before ++ xs) x
 behind_push before [] x = append-nil (events_at before x) ∙ ap (λ lines. events_at lines x) (sym (append-nil before))
 behind_push before (y ∷ xs) x =
-    ap (λ events. events_at before y ++ events) (behind_push (before ++ y ∷ []) xs x ∙ ap (λ lines. events_behind (before ++ y ∷ []) xs ++ events_at lines x) (append_assoc before (y ∷ []) xs))
-    ∙ sym (append_assoc (events_at before y) (events_behind (before ++ y ∷ []) xs) (events_at (before ++ y ∷ xs) x))
+    ap (λ events. events_at before y ++ events) (behind_push (before ++ y ∷ []) xs x ∙ ap (λ lines. tap_events_behind (before ++ y ∷ []) xs ++ events_at lines x) (append_assoc before (y ∷ []) xs))
+    ∙ sym (append_assoc (events_at before y) (tap_events_behind (before ++ y ∷ []) xs) (events_at (before ++ y ∷ xs) x))
 
 -- the events before the end, one line more
-pub so_far_push : (lines : List (List ℕ)) (bytes : List ℕ) → events_so_far (lines ++ bytes ∷ []) ≡ events_so_far lines ++ events_at (map input_of lines) (input_of bytes)
-so_far_push lines bytes = ap (events_behind []) (map_push input_of lines bytes) ∙ behind_push [] (map input_of lines) (input_of bytes)
+pub so_far_push : (lines : List (List ℕ)) (bytes : List ℕ) → tap_events_so_far (lines ++ bytes ∷ []) ≡ tap_events_so_far lines ++ events_at (map input_of lines) (input_of bytes)
+so_far_push lines bytes = ap (tap_events_behind []) (map_push input_of lines bytes) ∙ behind_push [] (map input_of lines) (input_of bytes)
 
 -- Comment lines.
 
 -- a line that is not too long
-pub input_is_line : (bytes : List ℕ) → length bytes ≤ longest_line → input_of bytes ≡ line (tap_line_of (without_return bytes))
-input_is_line bytes few = cond-false _ _ _ (le-ltb longest_line (length bytes) few)
+pub input_is_line : (bytes : List ℕ) → length bytes ≤ longest_tap_line → input_of bytes ≡ line (tap_line_of (without_return bytes))
+input_is_line bytes few = cond-false _ _ _ (le-ltb longest_tap_line (length bytes) few)
 
 -- and is known to be this
-pub input_meant : (bytes short : List ℕ) (this : TapLine) → length bytes ≤ longest_line → short ≡ without_return bytes → this ≡ tap_line_of short → input_of bytes ≡ line this
+pub input_meant : (bytes short : List ℕ) (this : TapLine) → length bytes ≤ longest_tap_line → short ≡ without_return bytes → this ≡ tap_line_of short → input_of bytes ≡ line this
 input_meant bytes short this few cut is = input_is_line bytes few ∙ ap (λ l. line (tap_line_of l)) (sym cut) ∙ ap line (sym is)
 
 -- a line that begins with `#`
@@ -198,23 +199,23 @@ pub comment_is_not : (bytes : List ℕ) → begins (codes "#") bytes ≡ false �
 comment_is_not bytes not_it = with_parts (plan_of bytes) (test_line_of bytes) bytes not_it
 
 -- a line that is not too long, and what is left of it without a carriage return
-module _ (bytes short : List ℕ) (few : length bytes ≤ longest_line) (cut : short ≡ without_return bytes) where
+module _ (bytes short : List ℕ) (few : length bytes ≤ longest_tap_line) (cut : short ≡ without_return bytes) where
   input_is : input_of bytes ≡ line (tap_line_of short)
   input_is = input_is_line bytes few ∙ ap (λ l. line (tap_line_of l)) (sym cut)
 
   input_is_comment : begins (codes "#") short ≡ true → input_of bytes ≡ line (comment short)
   input_is_comment is = input_is ∙ ap line (comment_is short is)
 
-  pub awaited : (before : List Input) → begins (codes "#") short ≡ true → is_awaited before (input_of bytes) ≡ is_some (waiting before)
+  pub awaited : (before : List TapInput) → begins (codes "#") short ≡ true → is_awaited before (input_of bytes) ≡ is_some (waiting before)
   awaited before is = ap (λ i. is_some (comment_in i) && is_some (waiting before)) (input_is_comment is)
 
-  pub not_awaited : (before : List Input) → begins (codes "#") short ≡ false → is_awaited before (input_of bytes) ≡ false
+  pub not_awaited : (before : List TapInput) → begins (codes "#") short ≡ false → is_awaited before (input_of bytes) ≡ false
   not_awaited before is_not = ap (λ c. is_some c && is_some (waiting before)) (ap comment_in input_is ∙ comment_is_not short is_not)
 
-  pub comment_read : (reader : TapReader) (lines : List (List ℕ)) → begins (codes "#") short ≡ true → HasHeardLines reader (map input_of lines ++ line (comment short) ∷ []) → HasRead reader (lines ++ bytes ∷ [])
-  comment_read reader lines is known = subst (HasHeardLines reader) (ap (λ i. map input_of lines ++ i ∷ []) (sym (input_is_comment is)) ∙ sym (map_push input_of lines bytes)) known
+  pub comment_read : (reader : TapReader) (lines : List (List ℕ)) → begins (codes "#") short ≡ true → HasTakenLines reader (map input_of lines ++ line (comment short) ∷ []) → HasReadLines reader (lines ++ bytes ∷ [])
+  comment_read reader lines is known = subst (HasTakenLines reader) (ap (λ i. map input_of lines ++ i ∷ []) (sym (input_is_comment is)) ∙ sym (map_push input_of lines bytes)) known
 
-  pub comment_gives_none : (lines : List (List ℕ)) → begins (codes "#") short ≡ true → events_at (map input_of lines) (line (comment short)) ≡ [] → events_so_far (lines ++ bytes ∷ []) ≡ events_so_far lines
+  pub comment_gives_none : (lines : List (List ℕ)) → begins (codes "#") short ≡ true → events_at (map input_of lines) (line (comment short)) ≡ [] → tap_events_so_far (lines ++ bytes ∷ []) ≡ tap_events_so_far lines
   comment_gives_none lines is none =
-      so_far_push lines bytes ∙ ap (λ i. events_so_far lines ++ events_at (map input_of lines) i) (input_is_comment is)
-      ∙ ap (λ events. events_so_far lines ++ events) none ∙ append-nil (events_so_far lines)
+      so_far_push lines bytes ∙ ap (λ i. tap_events_so_far lines ++ events_at (map input_of lines) i) (input_is_comment is)
+      ∙ ap (λ events. tap_events_so_far lines ++ events) none ∙ append-nil (tap_events_so_far lines)

@@ -5,6 +5,7 @@ use Rattle.std.specs.Option.{option_map}
 use Rattle.std.proofs.lemmas.Bool.Decides.{nat_tests}
 use Rattle.std.proofs.lemmas.List.Elements.{All-nil, All-cons, All-append}
 use Rattle.sub_number.specs.Numbers.{shortest_number}
+use Rattle.sub_number.specs.Lines.{with_newline}
 use Rattle.packet_codec.specs.declared.event.Event.{Event}
 use Rattle.packet_codec.specs.declared.event.FilePart.{FilePart}
 use Rattle.packet_codec.specs.declared.status.Status.{Status}
@@ -12,7 +13,7 @@ use Rattle.packet_codec.specs.Canonical.{canonical_optional, canonical_text, can
 use Rattle.packet_codec.proofs.ShortestLemmas.{length_shortest_number, shortest_size_range}
 use Rattle.packet_codec.proofs.WritingLemmas.{length_canonical_fields}
 use Rattle.stream_reader.specs.Notes.{stdout_event}
-use Rattle.tap_bridge.specs.Events.{longest_line, mime_type, with_newline}
+use Rattle.tap_bridge.specs.Events.{longest_tap_line, comment_mime}
 use Rattle.tap_bridge.specs.Kept.{IsShortFile}
 
 packet_size_most : (n : ℕ) → packet_size n ≤ n + 10
@@ -55,16 +56,16 @@ optional_file : (file : Option FilePart) → IfSome file IsShortFile → length 
 optional_file None short = omega arith
 optional_file (Some file) short = file_size file short
 
-optional_mime : (file : Option FilePart) → length (canonical_optional canonical_text (option_map (λ part. mime_type) file)) ≤ 28
+optional_mime : (file : Option FilePart) → length (canonical_optional canonical_text (option_map (λ part. comment_mime) file)) ≤ 28
 optional_mime None = omega arith
-optional_mime (Some file) = length_counted mime_type
+optional_mime (Some file) = length_counted comment_mime
 
-pub test_fits : (id : List ℕ) (how : Status) (mime : Option (List ℕ)) (file : Option FilePart) → mime ≡ option_map (λ part. mime_type) file → length id < 2 ^ 20 → IfSome file IsShortFile → Fits (test_event id how mime file)
+pub test_fits : (id : List ℕ) (how : Status) (mime : Option (List ℕ)) (file : Option FilePart) → mime ≡ option_map (λ part. comment_mime) file → length id < 2 ^ 20 → IfSome file IsShortFile → Fits (test_event id how mime file)
 test_fits id how mime file is short fits = rw is (record {
   size = omega (
     arith,
-    packet_size_most (length (canonical_fields (test_event id how (option_map (λ part. mime_type) file) file))),
-    length_canonical_fields (test_event id how (option_map (λ part. mime_type) file) file),
+    packet_size_most (length (canonical_fields (test_event id how (option_map (λ part. comment_mime) file) file))),
+    length_canonical_fields (test_event id how (option_map (λ part. comment_mime) file) file),
     length_counted id,
     optional_mime file,
     optional_file file fits,
@@ -86,7 +87,7 @@ stdout_fits bytes short = record {
 }
 
 -- the event of a line
-pub output_fits : (line bytes : List ℕ) (event : Event) → event ≡ stdout_event bytes → bytes ≡ with_newline line → length line ≤ longest_line → Fits event
+pub output_fits : (line bytes : List ℕ) (event : Event) → event ≡ stdout_event bytes → bytes ≡ with_newline line → length line ≤ longest_tap_line → Fits event
 output_fits line bytes event is all short = rw is (stdout_fits bytes (omega (arith, ap length all, length-append line (10 ∷ []), short)))
 
 pub fit_none : (events : List Event) → events ≡ [] → All Fits events

@@ -1,17 +1,14 @@
 -- The grammar of one line of the Test Anything Protocol, versions 12 to 14 (docs/FORMATS.md, "TAP").
-use Rattle.std.specs.Prelude.{ℕ, ◌+◌, Bool, true, false, ◌&&◌, ◌||◌, ◌==◌, Option, None, Some, List, [], ◌∷◌, length, take, drop, nat_eq, nat_le, is_some, codes, if◌then◌else◌}
+use Rattle.std.specs.Prelude.{ℕ, ◌+◌, Bool, true, false, ◌&&◌, ◌||◌, ◌==◌, Option, None, Some, List, [], ◌∷◌, length, take, drop, nat_le, is_some, codes, if◌then◌else◌}
 use Rattle.std.specs.Char.{is_ascii_digit}
-use Rattle.std.specs.List.{starts_with, list_all}
+use Rattle.std.specs.List.{list_all}
 use Rattle.std.specs.Str.{str_eq_ignore_ascii_case}
 use Rattle.std.specs.Str.Parse.{digits_value}
+use Rattle.sub_number.specs.Lines.{begins}
 use Rattle.tap_bridge.specs.declared.directive.Directive.{Directive}
 use Rattle.tap_bridge.specs.declared.directive.Directive.TheVariants.{Skip, Todo}
 use Rattle.tap_bridge.specs.declared.plan.Plan.{Plan}
 use Rattle.tap_bridge.specs.Blanks.{begins_blank, trim_start, trim, first_word, behind_word}
-
--- the bytes begin with this word
-abbrev pub begins : List ℕ → List ℕ → Bool
-begins word bytes = starts_with nat_eq bytes word
 
 -- the bytes begin with this word in letters of any case
 abbrev pub begins_in_any_case : List ℕ → List ℕ → Bool

@@ -7,15 +7,15 @@ use Rattle.packet_codec.specs.declared.status.Status.{Status}
 use Rattle.tap_bridge.specs.declared.waiting_test.Waiting.{Waiting as Kept}
 use Rattle.tap_bridge.specs.declared.reader.TapReader.{TapReader}
 use Rattle.tap_bridge.specs.Ids.{id_from, test_name}
-use Rattle.tap_bridge.specs.Events.{Waiting, Input, input_of, next_number, planned_tests, waiting, tap_status, comment_of, comment_file, event_with_id}
+use Rattle.tap_bridge.specs.Events.{Waiting, TapInput, input_of, next_number, planned_tests, waiting, tap_status, comment_of, comment_file, event_with_id}
 
 -- a file that leaves room in a packet for an id
 abbrev pub IsShortFile : FilePart → Type 0
 IsShortFile file = (length file.name ≤ 16) × (length file.bytes ≤ 65537)
 
 -- what is kept of the waiting test
-abbrev pub kept_of : Waiting → Kept
-kept_of w = record {
+abbrev pub kept_waiting : Waiting → Kept
+kept_waiting w = record {
   id = id_from (test_name w.number w.shown.description);
   status = tap_status w.shown.passed w.shown.directive;
   comment = comment_of w.shown.reason w.comments;
@@ -31,11 +31,11 @@ kept_events None = []
 kept_events (Some kept) = kept_event kept ∷ []
 
 -- the reader was given these lines
-pub record HasHeardLines (reader : TapReader) (lines : List Input) : Type 0 where
+pub record HasTakenLines (reader : TapReader) (lines : List TapInput) : Type 0 where
   pub next : reader.next ≡ next_number lines
   pub tests : reader.tests ≡ planned_tests lines
-  pub waits : reader.waiting ≡ option_map kept_of (waiting lines)
+  pub waits : reader.waiting ≡ option_map kept_waiting (waiting lines)
 
 -- the reader was given these lines, as bytes
-abbrev pub HasRead : TapReader → List (List ℕ) → Type 0
-HasRead reader lines = HasHeardLines reader (map input_of lines)
+abbrev pub HasReadLines : TapReader → List (List ℕ) → Type 0
+HasReadLines reader lines = HasTakenLines reader (map input_of lines)

@@ -16,17 +16,17 @@ test_meant t = record {
 }
 
 -- the line that the code's line stands for
-abbrev pub line_meant : Read → TapLine
-line_meant (read.Plan p) = plan p
-line_meant (read.Test t) = test (test_meant t)
-line_meant (read.Comment bytes) = comment bytes.now
-line_meant (read.BailOut id) = bail_out id.now
-line_meant (read.Other bytes) = other bytes.now
+abbrev pub tap_line_meant : Read → TapLine
+tap_line_meant (read.Plan p) = plan p
+tap_line_meant (read.Test t) = test (test_meant t)
+tap_line_meant (read.Comment bytes) = comment bytes.now
+tap_line_meant (read.BailOut id) = bail_out id.now
+tap_line_meant (read.Other bytes) = other bytes.now
 
 -- What becomes part of an event has at most so many bytes.
-abbrev pub HasShortParts : Read → ℕ → Type 0
-HasShortParts (read.Plan p) most = Unit {0}
-HasShortParts (read.Test t) most = length t.description.now ≤ most
-HasShortParts (read.Comment bytes) most = length bytes.now ≤ most
-HasShortParts (read.BailOut id) most = length id.now ≤ most
-HasShortParts (read.Other bytes) most = length bytes.now ≤ most
+abbrev pub HasShortTexts : Read → ℕ → Type 0
+HasShortTexts (read.Plan p) most = Unit {0}
+HasShortTexts (read.Test t) most = length t.description.now ≤ most
+HasShortTexts (read.Comment bytes) most = length bytes.now ≤ most
+HasShortTexts (read.BailOut id) most = length id.now ≤ most
+HasShortTexts (read.Other bytes) most = length bytes.now ≤ most

@@ -43,16 +43,16 @@ abbrev pub is_hidden : ℕ → Bool
 is_hidden byte = nat_lt byte 32 || byte == 35
 
 -- a question mark in place of a byte that a line does not show
-abbrev pub shown_byte : ℕ → ℕ
-shown_byte byte = if is_hidden byte then 63 else byte
+abbrev pub tap_shown_byte : ℕ → ℕ
+tap_shown_byte byte = if is_hidden byte then 63 else byte
 
 -- the id as a line shows it
-abbrev pub shown_id : List ℕ → List ℕ
-shown_id id = map shown_byte id
+abbrev pub tap_shown_id : List ℕ → List ℕ
+tap_shown_id id = map tap_shown_byte id
 
 -- the line of the test of this number
 abbrev pub line_of_row : ℕ → Row → List ℕ
-line_of_row number row = tap_verdict row.ended ++ decimal number ++ codes " " ++ shown_id row.id ++ directive_text row.ended ++ codes "\n"
+line_of_row number row = tap_verdict row.ended ++ decimal number ++ codes " " ++ tap_shown_id row.id ++ directive_text row.ended ++ codes "\n"
 
 -- how many lines there are with this row, where there were so many before it
 abbrev pub lines_with : ℕ → Row → ℕ
@@ -63,17 +63,17 @@ abbrev pub lines_in : List Row → ℕ
 lines_in rows = fold lines_with 0 rows
 
 -- what is written of the row where these came before it
-abbrev pub text_at : List Row → Row → List ℕ
-text_at before row = if has_line row.ended then line_of_row (one_more (lines_in before)) row else []
+abbrev pub tap_text_at : List Row → Row → List ℕ
+tap_text_at before row = if has_line row.ended then line_of_row (one_more (lines_in before)) row else []
 
 -- the lines of some rows, where others came before them
-abbrev pub text_behind : List Row → List Row → List ℕ
-text_behind before [] = []
-text_behind before (row ∷ rows) = text_at before row ++ text_behind (before ++ row ∷ []) rows
+abbrev pub tap_text_behind : List Row → List Row → List ℕ
+tap_text_behind before [] = []
+tap_text_behind before (row ∷ rows) = tap_text_at before row ++ tap_text_behind (before ++ row ∷ []) rows
 
 -- the lines of the rows, without the plan
-abbrev pub text_so_far : List Row → List ℕ
-text_so_far rows = text_behind [] rows
+abbrev pub tap_text_so_far : List Row → List ℕ
+tap_text_so_far rows = tap_text_behind [] rows
 
 -- the plan of so many tests
 abbrev pub plan_line : ℕ → List ℕ
@@ -81,8 +81,8 @@ plan_line tests = codes "1.." ++ decimal tests ++ codes "\n"
 
 -- the lines of the rows, and then the plan
 abbrev pub tap_text : List Row → List ℕ
-tap_text rows = text_so_far rows ++ plan_line (lines_in rows)
+tap_text rows = tap_text_so_far rows ++ plan_line (lines_in rows)
 
 -- the writer was given these rows
-abbrev pub HasWritten : TapWriter → List Row → Type 0
-HasWritten writer rows = writer.lines ≡ lines_in rows
+abbrev pub HasWrittenRows : TapWriter → List Row → Type 0
+HasWrittenRows writer rows = writer.lines ≡ lines_in rows

@@ -35,7 +35,7 @@ fn word_size(bytes: &[u8]) -> usize
 }
 
 /// The bytes behind so many, none where there are fewer.
-pub(crate) fn behind(bytes: &[u8], count: usize) -> &[u8]
+pub(crate) fn bytes_behind(bytes: &[u8], count: usize) -> &[u8]
     ensures rest { result.now ≡ drop count bytes.now }
     ensures within { length result.now ≤ length bytes.now }
 {

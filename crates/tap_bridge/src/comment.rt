@@ -1,7 +1,8 @@
 //! The comment of a test.
 
 ghost use Rattle.std.specs.Prelude.{◌≡◌, [], ◌++◌, take, length, IfOk, IfSome, OnOk, ◌==◌, if◌then◌else◌};
-ghost use Rattle.tap_bridge.specs.Events.{comment_limit, with_newline, comment_file};
+ghost use Rattle.sub_number.specs.Lines.{with_newline};
+ghost use Rattle.tap_bridge.specs.Events.{comment_limit, comment_file};
 ghost use Rattle.tap_bridge.specs.Kept.{IsShortFile};
 
 use packet_codec::FilePart;

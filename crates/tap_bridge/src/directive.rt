@@ -3,7 +3,7 @@
 ghost use Rattle.std.specs.Prelude.{◌≡◌, ◌≤◌, length};
 ghost use Rattle.tap_bridge.specs.Grammar as grammar;
 
-use crate::blanks::{begins_blank, behind, trim, trim_start};
+use crate::blanks::{begins_blank, bytes_behind, trim, trim_start};
 use memchr::memchr;
 
 /// What a test line says of its test behind a `#`.
@@ -38,8 +38,8 @@ fn directive_word(bytes: &[u8]) -> Option<Directive>
 pub(crate) fn directive_at(bytes: &[u8]) -> Option<Directive>
     ensures { result ≡ grammar.directive_at bytes.now }
 {
-    if bytes.starts_with(b" #") && begins_blank(behind(bytes, 2)) {
-        directive_word(trim_start(behind(bytes, 2)))
+    if bytes.starts_with(b" #") && begins_blank(bytes_behind(bytes, 2)) {
+        directive_word(trim_start(bytes_behind(bytes, 2)))
     } else {
         None
     }
@@ -66,7 +66,7 @@ pub(crate) fn reason_behind(directive: Option<Directive>, bytes: &[u8]) -> &[u8]
     ensures { result.now ≡ grammar.reason_behind directive bytes.now }
 {
     match directive {
-        Some(_) => trim(behind(trim_start(behind(bytes, 2)), 4)),
+        Some(_) => trim(bytes_behind(trim_start(bytes_behind(bytes, 2)), 4)),
         None => b"",
     }
 }

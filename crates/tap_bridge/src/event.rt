@@ -2,6 +2,7 @@
 
 ghost use Rattle.std.specs.Prelude.{◌≡◌, [], ◌++◌, None, ◌≤◌, length, All, IfOk, IfSome, OnOk};
 ghost use Rattle.std.specs.Option.{option_map};
+ghost use Rattle.sub_number.specs.Lines.{with_newline};
 ghost use Rattle.tap_bridge.specs.Events as spec;
 ghost use Rattle.packet_codec.specs.declared.status.Status.TheVariants.{Fail};
 ghost use Rattle.packet_codec.specs.Canonical.{Fits};
@@ -18,7 +19,7 @@ use sub_number::{Bytes, NoMemory, Text};
 
 // The MIME type of the file, where there is one.
 fn mime_of(alloc: Global, file: &Option<FilePart>) -> Result<Option<Text>, NoMemory>
-    ensures { IfOk result (λ mime. mime ≡ option_map (λ part. spec.mime_type) file.now) }
+    ensures { IfOk result (λ mime. mime ≡ option_map (λ part. spec.comment_mime) file.now) }
 {
     if file.is_none() {
         return Ok(None);
@@ -121,7 +122,7 @@ pub(crate) fn add_skipped_file(
 
 /// The event of a line that gives the run up.
 pub(crate) fn bail_out_event(alloc: Global, line: &[u8]) -> Result<Event, NoMemory>
-    requires { length line.now ≤ spec.longest_line }
+    requires { length line.now ≤ spec.longest_tap_line }
     ensures event { IfOk result (λ event. event ≡ spec.event_with_name line.now Fail None) }
     ensures fits { IfOk result Fits }
 {
@@ -131,8 +132,8 @@ pub(crate) fn bail_out_event(alloc: Global, line: &[u8]) -> Result<Event, NoMemo
 
 /// The line and a newline as a piece of the file `stdout`.
 pub(crate) fn output_event(alloc: Global, line: &[u8]) -> Result<Event, NoMemory>
-    requires { length line.now ≤ spec.longest_line }
-    ensures event { IfOk result (λ event. event ≡ event_of_output (spec.with_newline line.now)) }
+    requires { length line.now ≤ spec.longest_tap_line }
+    ensures event { IfOk result (λ event. event ≡ event_of_output (with_newline line.now)) }
     ensures fits { IfOk result Fits }
 {
     let mut bytes = Vec::with_capacity(alloc, line.len() + 1)?;

@@ -2,7 +2,7 @@
 
 ghost use Rattle.std.specs.Prelude.{◌≡◌, ◌++◌, ◌<◌, ◌≤◌, ◌^◌, ◌≢◌, All, length, IfOk, OnOk};
 ghost use Rattle.std.specs.String.{string_bytes};
-ghost use Rattle.tap_bridge.specs.Events.{longest_line};
+ghost use Rattle.tap_bridge.specs.Events.{longest_tap_line};
 ghost use Rattle.tap_bridge.specs.Ids as spec;
 
 use bstr::ByteSlice;
@@ -96,7 +96,7 @@ pub(crate) fn test_id(
     description: &[u8],
     name: &mut Vec<u8>,
 ) -> Result<TestId, NoMemory>
-    requires { length description.now ≤ longest_line }
+    requires { length description.now ≤ longest_tap_line }
     ensures { IfOk result (λ id. id ≡ spec.id_from (spec.test_name number description.now)) }
 {
     name.clear();

@@ -1,9 +1,10 @@
 //! What one line is.
 
 ghost use Rattle.std.specs.Prelude.{◌≡◌, ◌≤◌, length};
+ghost use Rattle.sub_number.specs.Lines.{without_return};
 ghost use Rattle.tap_bridge.specs.Grammar as grammar;
 ghost use Rattle.tap_bridge.specs.Events as spec;
-ghost use Rattle.tap_bridge.specs.Read.{line_meant, HasShortParts};
+ghost use Rattle.tap_bridge.specs.Read.{tap_line_meant, HasShortTexts};
 
 use crate::blanks::trim;
 use crate::plan::{Plan, plan_of};
@@ -25,7 +26,7 @@ pub(crate) enum Line<'a> {
 
 /// The line without a carriage return at its end.
 pub(crate) fn without_return(line: &[u8]) -> &[u8]
-    ensures line { result.now ≡ spec.without_return line.now }
+    ensures line { result.now ≡ without_return line.now }
     ensures within { length result.now ≤ length line.now }
 {
     if line.ends_with(b"\r") {
@@ -37,8 +38,8 @@ pub(crate) fn without_return(line: &[u8]) -> &[u8]
 
 /// What the line is, which has no newline and no carriage return at its end.
 pub(crate) fn line_of(line: &[u8]) -> Line<'_>
-    ensures meant { line_meant result ≡ grammar.tap_line_of line.now }
-    ensures within { HasShortParts result (length line.now) }
+    ensures meant { tap_line_meant result ≡ grammar.tap_line_of line.now }
+    ensures within { HasShortTexts result (length line.now) }
 {
     if let Some(plan) = plan_of(line) {
         return Line::Plan(plan);

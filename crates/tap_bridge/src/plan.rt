@@ -3,7 +3,7 @@
 ghost use Rattle.std.specs.Prelude.{◌≡◌};
 ghost use Rattle.tap_bridge.specs.Grammar as grammar;
 
-use crate::blanks::{begins_blank, behind, split_word, trim_start};
+use crate::blanks::{begins_blank, bytes_behind, split_word, trim_start};
 use crate::directive::begins_in_any_case;
 use crate::number::number_of;
 
@@ -24,10 +24,10 @@ fn skips_all(rest: &[u8]) -> bool
         return false;
     }
     let sign = trim_start(rest);
-    if !sign.starts_with(b"#") || !begins_blank(behind(sign, 1)) {
+    if !sign.starts_with(b"#") || !begins_blank(bytes_behind(sign, 1)) {
         return false;
     }
-    begins_in_any_case(trim_start(behind(sign, 1)), b"skip")
+    begins_in_any_case(trim_start(bytes_behind(sign, 1)), b"skip")
 }
 
 /// The plan that the line is. `None` comes exactly where it is none.
@@ -37,7 +37,7 @@ pub(crate) fn plan_of(line: &[u8]) -> Option<Plan>
     if !line.starts_with(b"1..") {
         return None;
     }
-    let (word, rest) = split_word(behind(line, 3));
+    let (word, rest) = split_word(bytes_behind(line, 3));
     let tests = number_of(word)?;
     if trim_start(rest).is_empty() {
         Some(Plan {

@@ -4,9 +4,10 @@ ghost use Rattle.std.specs.Prelude.{◌≡◌, ℕ, None, true, false, is_some, 
 ghost use Rattle.std.specs.Option.{unwrap_or};
 ghost use Rattle.packet_codec.specs.Canonical.{Fits};
 ghost use Rattle.stream_reader.specs.Notes.{stdout_event};
+ghost use Rattle.sub_number.specs.Lines.{with_newline};
 ghost use Rattle.tap_bridge.specs.Grammar as grammar;
 ghost use Rattle.tap_bridge.specs.Events as spec;
-ghost use Rattle.tap_bridge.specs.Kept.{HasHeardLines, HasRead, kept_events};
+ghost use Rattle.tap_bridge.specs.Kept.{HasTakenLines, HasReadLines, kept_events};
 ghost use Rattle.tap_bridge.specs.Read.{test_meant};
 
 use crate::event::{add_missing, add_skipped_file, bail_out_event, output_event};
@@ -37,7 +38,7 @@ pub struct TapReader {
 impl TapReader {
     /// A reader that was given no line. It takes no memory yet.
     pub fn new(alloc: Global) -> Self
-        ensures { HasRead result [] }
+        ensures { HasReadLines result [] }
     {
         TapReader {
             alloc,
@@ -61,9 +62,9 @@ impl TapReader {
     }
 
     fn take_plan(&mut self, plan: Plan, events: &mut Vec<Event>) -> Result<(), NoMemory>
-        ensures events { (before : List spec.Input) → HasHeardLines self.old before → OnOk result (events.new.items ≡ events.old.items ++ spec.events_at before (spec.line (grammar.plan plan))) }
+        ensures events { (before : List spec.TapInput) → HasTakenLines self.old before → OnOk result (events.new.items ≡ events.old.items ++ spec.events_at before (spec.line (grammar.plan plan))) }
         ensures fits { All Fits events.old.items → OnOk result (All Fits events.new.items) }
-        ensures read { (before : List spec.Input) → HasHeardLines self.old before → OnOk result (HasHeardLines self.new (before ++ spec.line (grammar.plan plan) ∷ [])) }
+        ensures read { (before : List spec.TapInput) → HasTakenLines self.old before → OnOk result (HasTakenLines self.new (before ++ spec.line (grammar.plan plan) ∷ [])) }
     {
         self.give_waiting(events)?;
         add_skipped_file(self.alloc, plan, events)?;
@@ -72,10 +73,10 @@ impl TapReader {
     }
 
     fn take_test(&mut self, test: &TestLine<'_>, events: &mut Vec<Event>) -> Result<(), NoMemory>
-        requires { length test.now.description.now ≤ spec.longest_line }
-        ensures events { (before : List spec.Input) → HasHeardLines self.old before → OnOk result (events.new.items ≡ events.old.items ++ spec.events_at before (spec.line (grammar.test (test_meant test.now)))) }
+        requires { length test.now.description.now ≤ spec.longest_tap_line }
+        ensures events { (before : List spec.TapInput) → HasTakenLines self.old before → OnOk result (events.new.items ≡ events.old.items ++ spec.events_at before (spec.line (grammar.test (test_meant test.now)))) }
         ensures fits { All Fits events.old.items → OnOk result (All Fits events.new.items) }
-        ensures read { (before : List spec.Input) → HasHeardLines self.old before → OnOk result (HasHeardLines self.new (before ++ spec.line (grammar.test (test_meant test.now)) ∷ [])) }
+        ensures read { (before : List spec.TapInput) → HasTakenLines self.old before → OnOk result (HasTakenLines self.new (before ++ spec.line (grammar.test (test_meant test.now)) ∷ [])) }
     {
         let number = number_in(self.next, test.number);
         self.give_waiting(events)?;
@@ -87,9 +88,9 @@ impl TapReader {
 
     // Adds the comment line to the waiting test, and answers whether one waits.
     fn add_comment(&mut self, line: &[u8]) -> Result<bool, NoMemory>
-        ensures events { (before : List spec.Input) → HasHeardLines self.old before → IfOk result (λ added. spec.events_at before (spec.line (grammar.comment line.now)) ≡ (if added then [] else stdout_event (spec.with_newline line.now) ∷ [])) }
-        ensures read { (before : List spec.Input) → HasHeardLines self.old before → OnOk result (HasHeardLines self.new (before ++ spec.line (grammar.comment line.now) ∷ [])) }
-        ensures waits { (before : List spec.Input) → HasHeardLines self.old before → IfOk result (λ added. added ≡ is_some (spec.waiting before)) }
+        ensures events { (before : List spec.TapInput) → HasTakenLines self.old before → IfOk result (λ added. spec.events_at before (spec.line (grammar.comment line.now)) ≡ (if added then [] else stdout_event (with_newline line.now) ∷ [])) }
+        ensures read { (before : List spec.TapInput) → HasTakenLines self.old before → OnOk result (HasTakenLines self.new (before ++ spec.line (grammar.comment line.now) ∷ [])) }
+        ensures waits { (before : List spec.TapInput) → HasTakenLines self.old before → IfOk result (λ added. added ≡ is_some (spec.waiting before)) }
         ensures left { IfOk result (λ added. added ≡ false → self.new ≡ self.old) }
     {
         match &mut self.waiting {
@@ -102,10 +103,10 @@ impl TapReader {
     }
 
     fn take_comment(&mut self, line: &[u8], events: &mut Vec<Event>) -> Result<(), NoMemory>
-        requires { length line.now ≤ spec.longest_line }
-        ensures events { (before : List spec.Input) → HasHeardLines self.old before → OnOk result (events.new.items ≡ events.old.items ++ spec.events_at before (spec.line (grammar.comment line.now))) }
+        requires { length line.now ≤ spec.longest_tap_line }
+        ensures events { (before : List spec.TapInput) → HasTakenLines self.old before → OnOk result (events.new.items ≡ events.old.items ++ spec.events_at before (spec.line (grammar.comment line.now))) }
         ensures fits { All Fits events.old.items → OnOk result (All Fits events.new.items) }
-        ensures read { (before : List spec.Input) → HasHeardLines self.old before → OnOk result (HasHeardLines self.new (before ++ spec.line (grammar.comment line.now) ∷ [])) }
+        ensures read { (before : List spec.TapInput) → HasTakenLines self.old before → OnOk result (HasTakenLines self.new (before ++ spec.line (grammar.comment line.now) ∷ [])) }
     {
         if self.add_comment(line)? {
             return Ok(());
@@ -115,10 +116,10 @@ impl TapReader {
     }
 
     fn take_bail_out(&mut self, id: &[u8], events: &mut Vec<Event>) -> Result<(), NoMemory>
-        requires { length id.now ≤ spec.longest_line }
-        ensures events { (before : List spec.Input) → HasHeardLines self.old before → OnOk result (events.new.items ≡ events.old.items ++ spec.events_at before (spec.line (grammar.bail_out id.now))) }
+        requires { length id.now ≤ spec.longest_tap_line }
+        ensures events { (before : List spec.TapInput) → HasTakenLines self.old before → OnOk result (events.new.items ≡ events.old.items ++ spec.events_at before (spec.line (grammar.bail_out id.now))) }
         ensures fits { All Fits events.old.items → OnOk result (All Fits events.new.items) }
-        ensures read { (before : List spec.Input) → HasHeardLines self.old before → OnOk result (HasHeardLines self.new (before ++ spec.line (grammar.bail_out id.now) ∷ [])) }
+        ensures read { (before : List spec.TapInput) → HasTakenLines self.old before → OnOk result (HasTakenLines self.new (before ++ spec.line (grammar.bail_out id.now) ∷ [])) }
     {
         self.give_waiting(events)?;
         events.push(bail_out_event(self.alloc, id)?)?;
@@ -126,10 +127,10 @@ impl TapReader {
     }
 
     fn take_other(&mut self, line: &[u8], events: &mut Vec<Event>) -> Result<(), NoMemory>
-        requires { length line.now ≤ spec.longest_line }
-        ensures events { (before : List spec.Input) → HasHeardLines self.old before → OnOk result (events.new.items ≡ events.old.items ++ spec.events_at before (spec.line (grammar.other line.now))) }
+        requires { length line.now ≤ spec.longest_tap_line }
+        ensures events { (before : List spec.TapInput) → HasTakenLines self.old before → OnOk result (events.new.items ≡ events.old.items ++ spec.events_at before (spec.line (grammar.other line.now))) }
         ensures fits { All Fits events.old.items → OnOk result (All Fits events.new.items) }
-        ensures read { (before : List spec.Input) → HasHeardLines self.old before → OnOk result (HasHeardLines self.new (before ++ spec.line (grammar.other line.now) ∷ [])) }
+        ensures read { (before : List spec.TapInput) → HasTakenLines self.old before → OnOk result (HasTakenLines self.new (before ++ spec.line (grammar.other line.now) ∷ [])) }
     {
         add_output(self.alloc, line, events)?;
         Ok(())
@@ -137,10 +138,10 @@ impl TapReader {
 
     // Takes the next line, without its newline, and appends what it gives.
     fn take_line(&mut self, line: &[u8], events: &mut Vec<Event>) -> Result<(), NoMemory>
-        requires { length line.now ≤ spec.longest_line }
-        ensures events { (before : List spec.Input) → HasHeardLines self.old before → OnOk result (events.new.items ≡ events.old.items ++ spec.events_at before (spec.input_of line.now)) }
+        requires { length line.now ≤ spec.longest_tap_line }
+        ensures events { (before : List spec.TapInput) → HasTakenLines self.old before → OnOk result (events.new.items ≡ events.old.items ++ spec.events_at before (spec.input_of line.now)) }
         ensures fits { All Fits events.old.items → OnOk result (All Fits events.new.items) }
-        ensures read { (before : List spec.Input) → HasHeardLines self.old before → OnOk result (HasHeardLines self.new (before ++ spec.input_of line.now ∷ [])) }
+        ensures read { (before : List spec.TapInput) → HasTakenLines self.old before → OnOk result (HasTakenLines self.new (before ++ spec.input_of line.now ∷ [])) }
     {
         match line_of(without_return(line)) {
             Line::Plan(plan) => self.take_plan(plan, events),
@@ -157,11 +158,11 @@ impl TapReader {
     ///
     /// After `NoMemory` the reader is given up: nothing is said of what it knows.
     pub fn line(&mut self, line: &[u8]) -> Result<Vec<Event>, NoMemory>
-        requires { length line.now ≤ spec.longest_line }
-        ensures events { (lines : List (List ℕ)) → HasRead self.old lines → IfOk result (λ events. events.items ≡ spec.events_at (map spec.input_of lines) (spec.input_of line.now)) }
-        ensures so_far { (lines : List (List ℕ)) → HasRead self.old lines → IfOk result (λ events. spec.events_so_far (lines ++ line.now ∷ []) ≡ spec.events_so_far lines ++ events.items) }
+        requires { length line.now ≤ spec.longest_tap_line }
+        ensures events { (lines : List (List ℕ)) → HasReadLines self.old lines → IfOk result (λ events. events.items ≡ spec.events_at (map spec.input_of lines) (spec.input_of line.now)) }
+        ensures so_far { (lines : List (List ℕ)) → HasReadLines self.old lines → IfOk result (λ events. spec.tap_events_so_far (lines ++ line.now ∷ []) ≡ spec.tap_events_so_far lines ++ events.items) }
         ensures fits { IfOk result (λ events. All Fits events.items) }
-        ensures read { (lines : List (List ℕ)) → HasRead self.old lines → OnOk result (HasRead self.new (lines ++ line.now ∷ [])) }
+        ensures read { (lines : List (List ℕ)) → HasReadLines self.old lines → OnOk result (HasReadLines self.new (lines ++ line.now ∷ [])) }
     {
         // Most lines give one event at most, for which an empty list would take room for several.
         let mut events = Vec::with_capacity(self.alloc, 1)?;
@@ -173,10 +174,10 @@ impl TapReader {
     ///
     /// After `NoMemory` the reader is given up: nothing is said of what it knows.
     pub fn line_into(&mut self, line: &[u8], events: &mut Vec<Event>) -> Result<(), NoMemory>
-        requires { length line.now ≤ spec.longest_line }
-        ensures events { (lines : List (List ℕ)) → HasRead self.old lines → OnOk result (events.new.items ≡ events.old.items ++ spec.events_at (map spec.input_of lines) (spec.input_of line.now)) }
+        requires { length line.now ≤ spec.longest_tap_line }
+        ensures events { (lines : List (List ℕ)) → HasReadLines self.old lines → OnOk result (events.new.items ≡ events.old.items ++ spec.events_at (map spec.input_of lines) (spec.input_of line.now)) }
         ensures fits { All Fits events.old.items → OnOk result (All Fits events.new.items) }
-        ensures read { (lines : List (List ℕ)) → HasRead self.old lines → OnOk result (HasRead self.new (lines ++ line.now ∷ [])) }
+        ensures read { (lines : List (List ℕ)) → HasReadLines self.old lines → OnOk result (HasReadLines self.new (lines ++ line.now ∷ [])) }
     {
         self.take_line(line, events)?;
         Ok(())
@@ -188,10 +189,10 @@ impl TapReader {
     ///
     /// After `NoMemory` the reader is given up: nothing is said of what it knows.
     pub fn comment(&mut self, line: &[u8]) -> Result<bool, NoMemory>
-        requires { length line.now ≤ spec.longest_line }
-        ensures which { (lines : List (List ℕ)) → HasRead self.old lines → IfOk result (λ taken. taken ≡ spec.is_awaited (map spec.input_of lines) (spec.input_of line.now)) }
-        ensures read { (lines : List (List ℕ)) → HasRead self.old lines → IfOk result (λ taken. taken ≡ true → HasRead self.new (lines ++ line.now ∷ [])) }
-        ensures nothing { (lines : List (List ℕ)) → HasRead self.old lines → IfOk result (λ taken. taken ≡ true → spec.events_so_far (lines ++ line.now ∷ []) ≡ spec.events_so_far lines) }
+        requires { length line.now ≤ spec.longest_tap_line }
+        ensures which { (lines : List (List ℕ)) → HasReadLines self.old lines → IfOk result (λ taken. taken ≡ spec.is_awaited (map spec.input_of lines) (spec.input_of line.now)) }
+        ensures read { (lines : List (List ℕ)) → HasReadLines self.old lines → IfOk result (λ taken. taken ≡ true → HasReadLines self.new (lines ++ line.now ∷ [])) }
+        ensures nothing { (lines : List (List ℕ)) → HasReadLines self.old lines → IfOk result (λ taken. taken ≡ true → spec.tap_events_so_far (lines ++ line.now ∷ []) ≡ spec.tap_events_so_far lines) }
         ensures left { IfOk result (λ taken. taken ≡ false → self.new ≡ self.old) }
     {
         let bytes = without_return(line);
@@ -205,9 +206,9 @@ impl TapReader {
     /// Ends the lines, and gives what the end decides: the event of the test that waits, and of each test that the plan
     /// promised and no line gave.
     pub fn close(mut self) -> Result<Vec<Event>, NoMemory>
-        ensures events { (lines : List (List ℕ)) → HasRead self lines → IfOk result (λ events. events.items ≡ spec.events_at_end (map spec.input_of lines)) }
+        ensures events { (lines : List (List ℕ)) → HasReadLines self lines → IfOk result (λ events. events.items ≡ spec.tap_events_at_end (map spec.input_of lines)) }
         ensures fits { IfOk result (λ events. All Fits events.items) }
-        ensures whole { (lines : List (List ℕ)) → HasRead self lines → IfOk result (λ events. spec.tap_events lines ≡ spec.events_so_far lines ++ events.items) }
+        ensures whole { (lines : List (List ℕ)) → HasReadLines self lines → IfOk result (λ events. spec.tap_events lines ≡ spec.tap_events_so_far lines ++ events.items) }
     {
         let mut events = Vec::with_capacity(self.alloc, 1)?;
         self.give_waiting(&mut events)?;
@@ -220,8 +221,8 @@ impl TapReader {
 
 // Appends the event of a line that is no part of a test.
 fn add_output(alloc: Global, line: &[u8], events: &mut Vec<Event>) -> Result<(), NoMemory>
-    requires { length line.now ≤ spec.longest_line }
-    ensures events { OnOk result (events.new.items ≡ events.old.items ++ stdout_event (spec.with_newline line.now) ∷ []) }
+    requires { length line.now ≤ spec.longest_tap_line }
+    ensures events { OnOk result (events.new.items ≡ events.old.items ++ stdout_event (with_newline line.now) ∷ []) }
     ensures fits { All Fits events.old.items → OnOk result (All Fits events.new.items) }
 {
     events.push(output_event(alloc, line)?)?;

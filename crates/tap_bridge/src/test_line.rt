@@ -5,7 +5,7 @@ ghost use Rattle.std.specs.Option.{option_map};
 ghost use Rattle.tap_bridge.specs.Grammar as grammar;
 ghost use Rattle.tap_bridge.specs.Read.{test_meant};
 
-use crate::blanks::{begins_blank, behind, split_word, trim, trim_start};
+use crate::blanks::{begins_blank, bytes_behind, split_word, trim, trim_start};
 use crate::directive::{Directive, directive_at, directive_place, reason_behind};
 use crate::number::{is_digits, number_of};
 
@@ -61,7 +61,8 @@ fn test_behind(passed: bool, rest: &[u8]) -> Option<TestLine<'_>>
 fn begins_with_word(line: &[u8], word: &[u8]) -> bool
     ensures { result ≡ grammar.begins_with_word word.now line.now }
 {
-    line.starts_with(word) && (begins_blank(behind(line, word.len())) || line.len() == word.len())
+    line.starts_with(word)
+        && (begins_blank(bytes_behind(line, word.len())) || line.len() == word.len())
 }
 
 /// The test line that the line is. `None` comes exactly where it is none.
@@ -70,9 +71,9 @@ pub(crate) fn test_of(line: &[u8]) -> Option<TestLine<'_>>
     ensures within { IfSome result (λ test. length test.description.now ≤ length line.now) }
 {
     if begins_with_word(line, b"ok") {
-        test_behind(true, behind(line, 2))
+        test_behind(true, bytes_behind(line, 2))
     } else if begins_with_word(line, b"not ok") {
-        test_behind(false, behind(line, 6))
+        test_behind(false, bytes_behind(line, 6))
     } else {
         None
     }

@@ -1,8 +1,8 @@
 //! The test that waits for its comments.
 
 ghost use Rattle.std.specs.Prelude.{◌≡◌, ◌≤◌, [], length, IfOk};
-ghost use Rattle.tap_bridge.specs.Events.{comment_of, longest_line};
-ghost use Rattle.tap_bridge.specs.Kept.{kept_of, kept_event};
+ghost use Rattle.tap_bridge.specs.Events.{comment_of, longest_tap_line};
+ghost use Rattle.tap_bridge.specs.Kept.{kept_waiting, kept_event};
 ghost use Rattle.tap_bridge.specs.Read.{test_meant};
 ghost use Rattle.packet_codec.specs.Canonical.{Fits};
 
@@ -45,8 +45,8 @@ impl Waiting {
         test: &TestLine<'_>,
         name: &mut Vec<u8>,
     ) -> Result<Self, NoMemory>
-        requires { length test.now.description.now ≤ longest_line }
-        ensures { IfOk result (λ waiting. waiting ≡ kept_of (record { number = number; shown = test_meant test.now; comments = [] })) }
+        requires { length test.now.description.now ≤ longest_tap_line }
+        ensures { IfOk result (λ waiting. waiting ≡ kept_waiting (record { number = number; shown = test_meant test.now; comments = [] })) }
     {
         Ok(Waiting {
             id: test_id(alloc, number, test.description, name)?,

@@ -64,7 +64,7 @@ fn is_hidden(byte: u8) -> bool
 
 // Appends the id with `?` for each byte that is not shown.
 fn write_replaced(id: &[u8], text: &mut Vec<u8>) -> Result<(), NoMemory>
-    ensures { OnOk result (text.new.items ≡ text.old.items ++ spec.shown_id id.now) }
+    ensures { OnOk result (text.new.items ≡ text.old.items ++ spec.tap_shown_id id.now) }
 {
     for byte in id {
         text.push(if is_hidden(*byte) { b'?' } else { *byte })?;
@@ -74,7 +74,7 @@ fn write_replaced(id: &[u8], text: &mut Vec<u8>) -> Result<(), NoMemory>
 
 // Appends the id as a line shows it. Most ids are shown as they are.
 fn write_shown(id: &[u8], text: &mut Vec<u8>) -> Result<(), NoMemory>
-    ensures { OnOk result (text.new.items ≡ text.old.items ++ spec.shown_id id.now) }
+    ensures { OnOk result (text.new.items ≡ text.old.items ++ spec.tap_shown_id id.now) }
 {
     if id.iter().any(|byte| is_hidden(*byte)) {
         return write_replaced(id, text);
@@ -110,7 +110,7 @@ fn plan_line(alloc: Global, tests: u64) -> Result<Vec<u8>, NoMemory>
 impl TapWriter {
     /// A writer that was given no row.
     pub fn new() -> Self
-        ensures { spec.HasWritten result [] }
+        ensures { spec.HasWrittenRows result [] }
     {
         TapWriter { lines: 0 }
     }
@@ -118,9 +118,9 @@ impl TapWriter {
     /// Appends the line of the row, with the next number from 1 on. A row of a test that is there and did not run has
     /// none.
     pub fn row(&mut self, row: &Row, out: &mut Vec<u8>) -> Result<(), NoMemory>
-        ensures text { (rows : List ARow) → spec.HasWritten self.old rows → OnOk result (out.new.items ≡ out.old.items ++ spec.text_at rows row.now) }
-        ensures so_far { (rows : List ARow) → spec.text_so_far (rows ++ row.now ∷ []) ≡ spec.text_so_far rows ++ spec.text_at rows row.now }
-        ensures written { (rows : List ARow) → spec.HasWritten self.old rows → OnOk result (spec.HasWritten self.new (rows ++ row.now ∷ [])) }
+        ensures text { (rows : List ARow) → spec.HasWrittenRows self.old rows → OnOk result (out.new.items ≡ out.old.items ++ spec.tap_text_at rows row.now) }
+        ensures so_far { (rows : List ARow) → spec.tap_text_so_far (rows ++ row.now ∷ []) ≡ spec.tap_text_so_far rows ++ spec.tap_text_at rows row.now }
+        ensures written { (rows : List ARow) → spec.HasWrittenRows self.old rows → OnOk result (spec.HasWrittenRows self.new (rows ++ row.now ∷ [])) }
         ensures nothing { OnErr result (out.new.items ≡ out.old.items) }
         ensures as_before { OnErr result (self.new ≡ self.old) }
     {
@@ -136,8 +136,8 @@ impl TapWriter {
 
     /// Appends the plan, which ends the text: how many lines were written.
     pub fn close(self, out: &mut Vec<u8>) -> Result<(), NoMemory>
-        ensures text { (rows : List ARow) → spec.HasWritten self rows → OnOk result (out.new.items ≡ out.old.items ++ spec.plan_line (spec.lines_in rows)) }
-        ensures whole { (rows : List ARow) → spec.tap_text rows ≡ spec.text_so_far rows ++ spec.plan_line (spec.lines_in rows) }
+        ensures text { (rows : List ARow) → spec.HasWrittenRows self rows → OnOk result (out.new.items ≡ out.old.items ++ spec.plan_line (spec.lines_in rows)) }
+        ensures whole { (rows : List ARow) → spec.tap_text rows ≡ spec.tap_text_so_far rows ++ spec.plan_line (spec.lines_in rows) }
         ensures nothing { OnErr result (out.new.items ≡ out.old.items) }
     {
         let plan = plan_line(*out.allocator(), self.lines)?;

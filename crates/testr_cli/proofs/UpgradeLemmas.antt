@@ -7,7 +7,7 @@ use Rattle.testr_words.specs.Letters.{long_words}
 use Rattle.testr_words.specs.Formats.{format_in}
 use Rattle.testr_words.specs.Lives.{live_in}
 use Rattle.testr_words.specs.Tasks.{Task, upgrade, task_with, task_of}
-use Rattle.testr_words.specs.Words.{and_then, if_texts, names_in, workers_in, file_in, texts_in, shard_in, load_list_word, expect_word, exclude_word, include_list_word, exclude_list_word, times_word, kinds_of, most_names, may_have, may_time, project_in, with_project, command_with, command_of_names, command_of, asked_by}
+use Rattle.testr_words.specs.Words.{and_then, if_texts, names_in, workers_in, file_in, texts_in, shard_in, load_list_word, expect_word, exclude_word, include_list_word, exclude_list_word, times_word, option_kinds, most_names, may_have, may_time, project_in, with_project, command_with, command_of_names, command_of, asked_by}
 use Rattle.testr_words.specs.declared.command.Command.{Command}
 use Rattle.testr_words.specs.declared.command.Face.{Face}
 use Rattle.testr_words.specs.declared.command.Face.TheVariants.{Testr, Stestr}
@@ -57,8 +57,8 @@ of_items None project made holds = tt
 of_items (Some items) project made holds = of_project (project items) (made items) (holds items)
 
 is_upgrade : (face : Face) (words : List (List ℕ)) → IfSome (command_of face (upgrade_word ∷ words)) IsUpgrade
-is_upgrade Testr words = of_items (items_of (kinds_of Testr Upgrade) (long_words (kinds_of Testr Upgrade) words)) (λ items. project_in items []) (command_of_names Testr Upgrade) (of_names Testr)
-is_upgrade Stestr words = of_items (items_of (kinds_of Stestr Upgrade) (long_words (kinds_of Stestr Upgrade) words)) (λ items. project_in items []) (command_of_names Stestr Upgrade) (of_names Stestr)
+is_upgrade Testr words = of_items (items_of (option_kinds Testr Upgrade) (long_words (option_kinds Testr Upgrade) words)) (λ items. project_in items []) (command_of_names Testr Upgrade) (of_names Testr)
+is_upgrade Stestr words = of_items (items_of (option_kinds Stestr Upgrade) (long_words (option_kinds Stestr Upgrade) words)) (λ items. project_in items []) (command_of_names Stestr Upgrade) (of_names Stestr)
 
 -- an upgrade is asked for, or nothing
 abbrev IsNoOther : Option Task → Type 0

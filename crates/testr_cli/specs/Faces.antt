@@ -1,8 +1,8 @@
 -- What the program promises: what the commands do, or the filters.
 use Rattle.std.specs.Prelude.{◌≡◌, ℕ, List, ◌∷◌}
 use Rattle.command_steps.specs.Outside.{Outside}
-use Rattle.filter_cli.specs.Outside.{outside as piped}
-use Rattle.filter_cli.specs.Promises.{Promises as FilterPromises}
+use Rattle.filter_cli.specs.Outside.{filter_outside as piped}
+use Rattle.filter_cli.specs.Promises.{FilterPromises}
 use Rattle.testr_cli.specs.From.{from_in, PromisesFrom}
 use Rattle.testr_words.specs.Words.{face_word}
 use Rattle.testr_words.specs.declared.command.Face.{Face}

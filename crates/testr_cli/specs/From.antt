@@ -52,11 +52,11 @@ from_in words = None
 
 -- the exit status where the files were not copied: 3 by what a folder holds, 4 where a call failed, 5 where memory was
 -- wanting
-abbrev pub copy_code : OldCopyFault → ℕ
-copy_code Site = 4
-copy_code (Shelf call) = 4
-copy_code NoMemory = 5
-copy_code fault = 3
+abbrev pub copy_exit_status : OldCopyFault → ℕ
+copy_exit_status Site = 4
+copy_exit_status (Shelf call) = 4
+copy_exit_status NoMemory = 5
+copy_exit_status fault = 3
 
 -- the line where the files were not copied, which names the other folder where the cause is in that
 abbrev pub copy_text : List ℕ → OldCopyFault → List ℕ
@@ -93,7 +93,7 @@ pub record StopsFrom (from : List ℕ) (before after : Outside) (answer : ℕ) :
   pub copied : CopiesOld from (places before.folder before.site) (places after.folder after.site) (Err fault)
   pub rest : after ≡ record before { folder = after.folder; site = after.site; errors = after.errors }
   pub told : TellsCopyFault from fault before.errors after.errors
-  pub code : answer ≡ copy_code fault
+  pub code : answer ≡ copy_exit_status fault
 
 -- the files were copied and the folder is upgraded then, or they were not and it is told why
 abbrev pub UpgradesFrom : Face → List ℕ → Outside → Outside → ℕ → Type 0

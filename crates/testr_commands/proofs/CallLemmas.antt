@@ -13,14 +13,14 @@ use Rattle.run_ledger.specs.Refreshing.{HoldBoth}
 use Rattle.run_shelf.specs.Looking.{base_calls}
 use Rattle.run_shelf.specs.Outcomes.{Surveys, TicksUpTo}
 use Rattle.run_shelf.specs.Repository.{Run, Shows}
-use Rattle.run_shelf.specs.Sides.{side_name}
-use Rattle.run_shelf.specs.declared.side.Side.TheVariants.{Failing, Times}
+use Rattle.run_shelf.specs.Sides.{cache_file_name}
+use Rattle.run_shelf.specs.declared.cache_file.CacheFile.TheVariants.{Failing, Times}
 use Rattle.run_shelf.proofs.ShowsLemmas.{kinds_of_runs}
-use Rattle.command_steps.specs.Refusals.{refusal_code, code_of}
+use Rattle.command_steps.specs.Refusals.{refusal_exit_status, exit_status}
 use Rattle.command_steps.specs.Causes.{candidates_in, FindsAmong, FindsEach, FindsCauses}
 use Rattle.testr_commands.specs.RunSuite.{TellsRun, TellsAndFinds}
-use Rattle.suite_causes.specs.declared.searching.SearchFault.{SearchFault}
-use Rattle.suite_causes.specs.declared.searching.SearchFault.TheVariants as search_fault
+use Rattle.suite_causes.specs.declared.cause_search.SearchFault.{SearchFault}
+use Rattle.suite_causes.specs.declared.cause_search.SearchFault.TheVariants as search_fault
 use Rattle.suite_causes.specs.declared.suspects.Suspect.{Suspect}
 use Rattle.testr_conf.specs.Settings.{Settings}
 use Rattle.command_steps.specs.Runs.{KeepsFiles, AddsRun}
@@ -36,12 +36,12 @@ use Rattle.testr_words.specs.declared.command.Face.{Face}
 use Rattle.testr_words.proofs.WordsLemmas.{same_face}
 use Rattle.command_steps.specs.declared.answer.Refusal.{Refusal}
 use Rattle.command_steps.specs.declared.answer.Refusal.TheVariants.{Usage, Print, Suspects, Ran, Search}
-use Rattle.command_steps.specs.declared.told.TellFault.{TellFault}
-use Rattle.command_steps.specs.declared.told.TellFault.TheVariants as tell_fault
+use Rattle.command_steps.specs.declared.question_answers.TellFault.{TellFault}
+use Rattle.command_steps.specs.declared.question_answers.TellFault.TheVariants as tell_fault
 use Rattle.command_steps.specs.declared.answer.Verdict.{Verdict}
 use Rattle.command_steps.specs.declared.answer.Verdict.TheVariants.{Passed, Failed}
 use Rattle.testr_words.specs.declared.command.Command.{Command}
-use Rattle.testr_words.specs.declared.drawing.Drawing.{Drawing}
+use Rattle.testr_words.specs.declared.selftest_words.SelfTestWords.{SelfTestWords}
 use Rattle.testr_words.specs.declared.command.Verb.{Verb}
 use Rattle.testr_words.specs.declared.command.Verb.TheVariants as verb
 use Rattle.testr_commands.proofs.ChainLemmas.{gives_not}
@@ -59,67 +59,67 @@ asks_then number i j a b c x y z first second = record {
 }
 
 -- none has 0 or 1
-some_code : (r : Refusal) → 2 ≤ refusal_code r
+some_code : (r : Refusal) → 2 ≤ refusal_exit_status r
 some_code (Usage fault) = omega arith
 some_code r = omega (arith, (codes r tt).least)
 
-pub refused : (result : Result Verdict Refusal) (refusal : Refusal) → IsErrAnd result (λ given. given ≡ refusal) → code_of result ≤ 1 → ⊥
+pub refused : (result : Result Verdict Refusal) (refusal : Refusal) → IsErrAnd result (λ given. given ≡ refusal) → exit_status result ≤ 1 → ⊥
 refused (Ok verdict) refusal is small = is
 refused (Err given) refusal is small = omega (arith, small, some_code given)
 
-pub told_refused : (refusal : Refusal) (answer : ℕ) → answer ≡ refusal_code refusal → answer ≤ 1 → ⊥
+pub told_refused : (refusal : Refusal) (answer : ℕ) → answer ≡ refusal_exit_status refusal → answer ≤ 1 → ⊥
 told_refused refusal answer is small = omega (arith, is, small, some_code refusal)
 
-pub refused_so : (result : Result Verdict Refusal) (refusal : Refusal) → IsErrAnd result (λ given. given ≡ refusal) → (refusal_code refusal ≡ 3 → ⊥) → code_of result ≡ 3 → ⊥
+pub refused_so : (result : Result Verdict Refusal) (refusal : Refusal) → IsErrAnd result (λ given. given ≡ refusal) → (refusal_exit_status refusal ≡ 3 → ⊥) → exit_status result ≡ 3 → ⊥
 refused_so (Ok verdict) refusal is other three = is
-refused_so (Err given) refusal is other three = other (ap refusal_code (sym is) ∙ three)
+refused_so (Err given) refusal is other three = other (ap refusal_exit_status (sym is) ∙ three)
 
 -- what tells of a run that is kept is no refusal of 3
-done_other : (verdict : Verdict) → code_of (Ok verdict) ≡ 3 → ⊥
+done_other : (verdict : Verdict) → exit_status (Ok verdict) ≡ 3 → ⊥
 done_other Passed three = omega (arith, three)
 done_other Failed three = omega (arith, three)
 
-pub tells_other : (format : FormatKind) (number : ℕ) (filter_tags : List (List ℕ)) (rows : List Row) (a b : Work) (result : Result Verdict Refusal) → TellsRun format number filter_tags rows a b result → code_of result ≡ 3 → ⊥
-tells_other format number filter_tags rows a b result (stops fault is says) three = omega (arith, ap code_of is, three)
-tells_other format number filter_tags rows a b result (goes_on report m says (stops fault is prints)) three = omega (arith, ap code_of is, three)
-tells_other format number filter_tags rows a b result (goes_on report m says (goes_on unit n prints gives)) three = done_other report.verdict (ap code_of (sym gives.answer) ∙ three)
+pub tells_other : (format : FormatKind) (number : ℕ) (filter_tags : List (List ℕ)) (rows : List Row) (a b : Work) (result : Result Verdict Refusal) → TellsRun format number filter_tags rows a b result → exit_status result ≡ 3 → ⊥
+tells_other format number filter_tags rows a b result (stops fault is says) three = omega (arith, ap exit_status is, three)
+tells_other format number filter_tags rows a b result (goes_on report m says (stops fault is prints)) three = omega (arith, ap exit_status is, three)
+tells_other format number filter_tags rows a b result (goes_on report m says (goes_on unit n prints gives)) three = done_other report.verdict (ap exit_status (sym gives.answer) ∙ three)
 
 -- so is what the search for causes tells behind that
-search_other : (fault : SearchFault) → refusal_code (Search fault) ≡ 3 → ⊥
+search_other : (fault : SearchFault) → refusal_exit_status (Search fault) ≡ 3 → ⊥
 search_other search_fault.Spawn three = omega (arith, three)
 search_other search_fault.Child three = omega (arith, three)
 search_other search_fault.NoMemory three = omega (arith, three)
 
-ran_other : (fault : TellFault) → refusal_code (Ran fault) ≡ 3 → ⊥
+ran_other : (fault : TellFault) → refusal_exit_status (Ran fault) ≡ 3 → ⊥
 ran_other tell_fault.Shelf three = omega (arith, three)
 ran_other tell_fault.NoMemory three = omega (arith, three)
 
 -- a refusal of another status, by the name of its step
-named_other : {T : Type 0} (named r : Refusal) → ◌≡◌ {A = Result T Refusal} (Err r) (Err named) → (refusal_code named ≡ 3 → ⊥) → refusal_code r ≡ 3 → ⊥
+named_other : {T : Type 0} (named r : Refusal) → ◌≡◌ {A = Result T Refusal} (Err r) (Err named) → (refusal_exit_status named ≡ 3 → ⊥) → refusal_exit_status r ≡ 3 → ⊥
 named_other named r is other three =
     let same : r ≡ named = cc in
-    other (ap refusal_code (sym same) ∙ three)
+    other (ap refusal_exit_status (sym same) ∙ three)
 
-among_other : (settings : Settings) (test : List ℕ) (candidates : List (List ℕ)) (a b : Work) (r : Refusal) → FindsAmong settings test candidates a b (Err r) → refusal_code r ≡ 3 → ⊥
+among_other : (settings : Settings) (test : List ℕ) (candidates : List (List ℕ)) (a b : Work) (r : Refusal) → FindsAmong settings test candidates a b (Err r) → refusal_exit_status r ≡ 3 → ⊥
 among_other settings test candidates a b r (stops fault is step) = named_other (Search fault) r is (search_other fault)
 among_other settings test candidates a b r (goes_on found m step (stops fault is prints)) = named_other (Print fault) r is (λ three. omega (arith, three))
 among_other settings test candidates a b r (goes_on found m step (goes_on none k prints gives)) = λ three. gives_not k b r gives
 
-each_other : (settings : Settings) (number : ℕ) (left : List Suspect) (a b : Work) (r : Refusal) → FindsEach settings number left a b (Err r) → refusal_code r ≡ 3 → ⊥
+each_other : (settings : Settings) (number : ℕ) (left : List Suspect) (a b : Work) (r : Refusal) → FindsEach settings number left a b (Err r) → refusal_exit_status r ≡ 3 → ⊥
 each_other settings number [] a b r gives = λ three. gives_not a b r gives
 each_other settings number (one ∷ more) a b r (stops fault is (stops why ran_is step)) = named_other fault r is (named_other (Ran why) fault ran_is (ran_other why))
 each_other settings number (one ∷ more) a b r (stops fault is (goes_on ids m step next)) = named_other fault r is (among_other settings one.id (candidates_in one.id ids) m b fault next)
 each_other settings number (one ∷ more) a b r (goes_on none m step next) = each_other settings number more m b r next
 
-causes_other : (asked : Bool) (settings : Settings) (number : ℕ) (rows : List Row) (a b : Work) (r : Refusal) → FindsCauses asked settings number rows a b (Err r) → refusal_code r ≡ 3 → ⊥
+causes_other : (asked : Bool) (settings : Settings) (number : ℕ) (rows : List Row) (a b : Work) (r : Refusal) → FindsCauses asked settings number rows a b (Err r) → refusal_exit_status r ≡ 3 → ⊥
 causes_other false settings number rows a b r gives = λ three. gives_not a b r gives
 causes_other true settings number rows a b r (stops fault is step) = named_other (Suspects fault) r is (λ three. omega (arith, three))
 causes_other true settings number rows a b r (goes_on suspects m step next) = each_other settings number suspects m b r next
 
-pub finds_other : (format : FormatKind) (asked : Bool) (settings : Settings) (number : ℕ) (rows : List Row) (a b : Work) (result : Result Verdict Refusal) → TellsAndFinds format asked settings number rows a b result → code_of result ≡ 3 → ⊥
-finds_other format asked settings number rows a b result (stops fault is tells) three = tells_other format number settings.filter_tags rows a b (Err fault) tells (ap code_of (sym is) ∙ three)
-finds_other format asked settings number rows a b result (goes_on verdict m tells (stops fault is finds)) three = causes_other asked settings number rows m b fault finds (ap code_of (sym is) ∙ three)
-finds_other format asked settings number rows a b result (goes_on verdict m tells (goes_on none k finds ends)) three = done_other verdict (ap code_of (sym ends.answer) ∙ three)
+pub finds_other : (format : FormatKind) (asked : Bool) (settings : Settings) (number : ℕ) (rows : List Row) (a b : Work) (result : Result Verdict Refusal) → TellsAndFinds format asked settings number rows a b result → exit_status result ≡ 3 → ⊥
+finds_other format asked settings number rows a b result (stops fault is tells) three = tells_other format number settings.filter_tags rows a b (Err fault) tells (ap exit_status (sym is) ∙ three)
+finds_other format asked settings number rows a b result (goes_on verdict m tells (stops fault is finds)) three = causes_other asked settings number rows m b fault finds (ap exit_status (sym is) ∙ three)
+finds_other format asked settings number rows a b result (goes_on verdict m tells (goes_on none k finds ends)) three = done_other verdict (ap exit_status (sym ends.answer) ∙ three)
 
 -- ---- the whole run
 
@@ -146,9 +146,9 @@ module _ (kinds : List Bool) (find partial : Bool) (old opened : Option Folder) 
         sound = subst IsSound (sym same) sound;
         held = record {
           ids = so.ids;
-          failing = record { bytes = so.failing.bytes; file = ap (λ (files : Files). files (side_name Failing)) same ∙ so.failing.file; form = so.failing.form };
+          failing = record { bytes = so.failing.bytes; file = ap (λ (files : Files). files (cache_file_name Failing)) same ∙ so.failing.file; form = so.failing.form };
           times = so.times;
-          timed = record { bytes = so.timed.bytes; file = ap (λ (files : Files). files (side_name Times)) same ∙ so.timed.file; form = so.timed.form };
+          timed = record { bytes = so.timed.bytes; file = ap (λ (files : Files). files (cache_file_name Times)) same ∙ so.timed.file; form = so.timed.form };
         };
       }
 
@@ -207,7 +207,7 @@ no_load : (few : Bool) (c : Command) (options : RunOptions) → (if few then Som
 no_load true c options is = cc
 no_load false c options is = cc
 
-no_drawn : (drawn : Option Drawing) (options : RunOptions) → option_map selftest drawn ≡ Some (run options) → ⊥
+no_drawn : (drawn : Option SelfTestWords) (options : RunOptions) → option_map selftest drawn ≡ Some (run options) → ⊥
 no_drawn None options is = cc
 no_drawn (Some drawing) options is = cc
 

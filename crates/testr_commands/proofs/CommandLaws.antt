@@ -13,14 +13,14 @@ use Rattle.testr_commands.specs.Ask.{CopiesLast, PrintsAnswer, AnswersOf, Asks}
 use Rattle.testr_words.specs.declared.command.Question.{Question}
 use Rattle.testr_commands.proofs.AskLemmas.{either}
 use Rattle.testr_commands.proofs.CopyLaws.{copy_counts, copy_quiet, copy_refuses}
-use Rattle.testr_commands.proofs.ChainLemmas.{Counts, Quiet, Refuses, LeavesPart, then_leaves, then_quiet, then_counts, then_refuses, gives_refuses}
+use Rattle.testr_commands.proofs.ChainLemmas.{KeepsCounts, Quiet, RefusesAs, LeavesPart, then_leaves, then_quiet, then_counts, then_refuses, gives_refuses}
 use Rattle.testr_commands.proofs.StepLaws.{still_counts, still_quiet, runs_refuse, memory_refuses, make_counts, make_refuses, open_counts, open_quiet, open_refuses, find_counts, find_quiet, find_refuses, begin_counts, begin_refuses, keep_counts, keep_refuses, refresh_counts, refresh_refuses, record_counts, record_refuses, print_counts, print_quiet, print_refuses, gives_quiet, gives_counts}
 use Rattle.testr_words.specs.Suites.{LoadOptions}
 
 abbrev all : Work → Work
 all w = w
 
-pub load_refuses : (options : LoadOptions) (names : List (List ℕ)) → Refuses all ⊥ (λ r. r) (Loads options names)
+pub load_refuses : (options : LoadOptions) (names : List (List ℕ)) → RefusesAs all ⊥ (λ r. r) (Loads options names)
 load_refuses options names =
     then_refuses all (λ a b v s. open_counts a b v s.at s.rest) (λ a b e s. open_refuses a b e s.at s.rest) (λ found.
     then_refuses all (λ a b v s. still_counts a b s.same) (λ a b e s. runs_refuse a b e s.same) (λ _.
@@ -32,7 +32,7 @@ load_refuses options names =
     then_refuses all (λ a b v s. print_counts a b _ v s.at s.rest) (λ a b e s. print_refuses a b _ e s.at s.rest) (λ _.
     gives_refuses all ⊥))))))))
 
-pub load_counts : (options : LoadOptions) (names : List (List ℕ)) → Counts all (Loads options names)
+pub load_counts : (options : LoadOptions) (names : List (List ℕ)) → KeepsCounts all (Loads options names)
 load_counts options names =
     then_counts all (λ a b v s. open_counts a b v s.at s.rest) (λ found.
     then_counts all (λ a b v s. still_counts a b s.same) (λ _.
@@ -65,13 +65,13 @@ module _ (site : Seen Files) (spawner : Seen Spawning) (input : Seen (List ℕ))
   abbrev pub of_shown : Shown → Work
   of_shown w = work w.folder site spawner input w.out
 
-  find_and_print_refuses : (question : Question) → Refuses of_shown ⊥ (λ r. r) (PrintsAnswer question)
+  find_and_print_refuses : (question : Question) → RefusesAs of_shown ⊥ (λ r. r) (PrintsAnswer question)
   find_and_print_refuses question =
       then_refuses of_shown (λ a b v s. find_counts (of_shown a) (of_shown b) question v s.at (ap of_shown s.rest)) (λ a b e s. find_refuses (of_shown a) (of_shown b) question e s.at (ap of_shown s.rest)) (λ told.
       then_refuses of_shown (λ a b v s. print_counts (of_shown a) (of_shown b) _ v s.at (ap of_shown s.rest)) (λ a b e s. print_refuses (of_shown a) (of_shown b) _ e s.at (ap of_shown s.rest)) (λ _.
       gives_refuses of_shown ⊥))
 
-  find_and_print_counts : (question : Question) → Counts of_shown (PrintsAnswer question)
+  find_and_print_counts : (question : Question) → KeepsCounts of_shown (PrintsAnswer question)
   find_and_print_counts question =
       then_counts of_shown (λ a b v s. find_counts (of_shown a) (of_shown b) question v s.at (ap of_shown s.rest)) (λ told.
       then_counts of_shown (λ a b v s. print_counts (of_shown a) (of_shown b) _ v s.at (ap of_shown s.rest)) (λ _.
@@ -87,12 +87,12 @@ module _ (site : Seen Files) (spawner : Seen Spawning) (input : Seen (List ℕ))
     abbrev last : ℕ
     last = length (kinds_of found) - 1
 
-    copy_last_refuses : Refuses of_shown ⊥ (λ r. r) (CopiesLast found)
+    copy_last_refuses : RefusesAs of_shown ⊥ (λ r. r) (CopiesLast found)
     copy_last_refuses =
         then_refuses of_shown (λ a b v s. copy_counts site spawner input last a b v s) (λ a b e s. copy_refuses site spawner input last a b e s) (λ _.
         gives_refuses of_shown ⊥)
 
-    copy_last_counts : Counts of_shown (CopiesLast found)
+    copy_last_counts : KeepsCounts of_shown (CopiesLast found)
     copy_last_counts =
         then_counts of_shown (λ a b v s. copy_counts site spawner input last a b v s) (λ _.
         gives_counts of_shown)
@@ -102,13 +102,13 @@ module _ (site : Seen Files) (spawner : Seen Spawning) (input : Seen (List ℕ))
         then_quiet of_shown (λ a b r s. copy_quiet site spawner input last a b r s) (λ _.
         gives_quiet of_shown)
 
-    answer_refuses : (question : Question) → Refuses of_shown ⊥ (λ r. r) (AnswersOf found question)
+    answer_refuses : (question : Question) → RefusesAs of_shown ⊥ (λ r. r) (AnswersOf found question)
     answer_refuses question a b e answers = elim (either found a b (Err e) question answers) [
       | inl (is, copies) ↦ copy_last_refuses a b e copies
       | inr prints ↦ find_and_print_refuses question a b e prints
     ]
 
-    answer_counts : (question : Question) → Counts of_shown (AnswersOf found question)
+    answer_counts : (question : Question) → KeepsCounts of_shown (AnswersOf found question)
     answer_counts question a b v answers = elim (either found a b (Ok v) question answers) [
       | inl (is, copies) ↦ copy_last_counts a b v copies
       | inr prints ↦ find_and_print_counts question a b v prints
@@ -120,13 +120,13 @@ module _ (site : Seen Files) (spawner : Seen Spawning) (input : Seen (List ℕ))
       | inr prints ↦ find_and_print_quiet question a b r prints
     ]
 
-  pub ask_refuses : (question : Question) → Refuses of_shown ⊥ (λ r. r) (Asks question)
+  pub ask_refuses : (question : Question) → RefusesAs of_shown ⊥ (λ r. r) (Asks question)
   ask_refuses question =
       then_refuses of_shown (λ a b v s. open_counts (of_shown a) (of_shown b) v s.at (ap of_shown s.rest)) (λ a b e s. open_refuses (of_shown a) (of_shown b) e s.at (ap of_shown s.rest)) (λ found.
       then_refuses of_shown (λ a b v s. still_counts (of_shown a) (of_shown b) (ap of_shown s.same)) (λ a b e s. runs_refuse (of_shown a) (of_shown b) e (ap of_shown s.same)) (λ _.
       answer_refuses found question))
 
-  pub ask_counts : (question : Question) → Counts of_shown (Asks question)
+  pub ask_counts : (question : Question) → KeepsCounts of_shown (Asks question)
   ask_counts question =
       then_counts of_shown (λ a b v s. open_counts (of_shown a) (of_shown b) v s.at (ap of_shown s.rest)) (λ found.
       then_counts of_shown (λ a b v s. still_counts (of_shown a) (of_shown b) (ap of_shown s.same)) (λ _.
@@ -142,12 +142,12 @@ module _ (site : Seen Files) (spawner : Seen Spawning) (input : Seen (List ℕ))
     abbrev pub of_folder : Seen Folder → Work
     of_folder folder = work folder site spawner input out
 
-    pub init_refuses : Refuses of_folder ⊥ (λ r. r) Inits
+    pub init_refuses : RefusesAs of_folder ⊥ (λ r. r) Inits
     init_refuses =
         then_refuses of_folder (λ a b v s. make_counts (of_folder a) (of_folder b) v s (λ i. of_folder b)) (λ a b e s. make_refuses (of_folder a) (of_folder b) e s (λ i. of_folder b)) (λ _.
         gives_refuses of_folder ⊥)
 
-    pub init_counts : Counts of_folder Inits
+    pub init_counts : KeepsCounts of_folder Inits
     init_counts =
         then_counts of_folder (λ a b v s. make_counts (of_folder a) (of_folder b) v s (λ i. of_folder b)) (λ _.
         gives_counts of_folder)

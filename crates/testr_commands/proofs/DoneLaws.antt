@@ -21,11 +21,11 @@ use Rattle.run_shelf.proofs.DraftLemmas.{goes_writes, run_kept}
 use Rattle.run_shelf.proofs.Joining.{stays_some}
 use Rattle.command_steps.specs.Outside.{Work, Shown, work_folder}
 use Rattle.command_steps.specs.Runs.{run_bytes, HasRunAndCaches, KeepsFiles, AddsRun}
-use Rattle.command_steps.specs.Verdicts.{verdict_of, verdict_code}
+use Rattle.command_steps.specs.Verdicts.{verdict_of, verdict_exit_status}
 use Rattle.command_steps.specs.Says.{SaysOfFolder}
 use Rattle.testr_words.specs.Questions.{OfLastRun}
 use Rattle.command_steps.specs.Files.{AreSources, HasRecordedInTurn, RecordsSources}
-use Rattle.command_steps.specs.declared.recording.RecordFault.{RecordFault}
+use Rattle.command_steps.specs.declared.input_recorder.RecordFault.{RecordFault}
 use Rattle.command_steps.specs.Refreshing.{Refreshes, BringsCaches}
 use Rattle.command_steps.specs.Reporting.{Report, IsReport, Reports, report_for}
 use Rattle.command_steps.specs.Steps.{Still, At}
@@ -45,7 +45,7 @@ use Rattle.testr_commands.proofs.SourcesLemmas.{IsRunOf, writes_run}
 use Rattle.testr_commands.proofs.RowsLemmas.{have_in_turn, rows_of_written}
 use Rattle.testr_commands.proofs.AskLemmas.{either}
 use Rattle.command_steps.proofs.CopyLemmas.{bytes_said}
-use Rattle.command_steps.proofs.Resting.{Rests, surveyed_fits}
+use Rattle.command_steps.proofs.Resting.{KeepsReads, surveyed_fits}
 use Rattle.command_steps.proofs.SoundLemmas.{KeepsRunAndCaches, rests_calm, surveyed_calm, goes_cached, fresh_through, adds_run}
 use Rattle.testr_commands.proofs.ChainLemmas.{then_did}
 use Rattle.testr_commands.proofs.StepLaws.{open_quiet}
@@ -66,23 +66,23 @@ init_made a b v inits =
     let made = then_did v inits in
     subst (λ (f : Seen Folder). Goes a.told f.told MakesRepository) (sym made.next.same) made.done.made
 
-pub init_passed : (a b : Seen Folder) (v : Verdict) → Inits a b (Ok v) → verdict_code v ≡ 0
+pub init_passed : (a b : Seen Folder) (v : Verdict) → Inits a b (Ok v) → verdict_exit_status v ≡ 0
 init_passed a b v inits =
     let made = then_did v inits in
-    ap verdict_code (same_verdict made.next.answer)
+    ap verdict_exit_status (same_verdict made.next.answer)
 
 -- ---- `load`
 
-pub status_is : (rows : List Row) → verdict_code (verdict_of rows) ≡ status_of rows
+pub status_is : (rows : List Row) → verdict_exit_status (verdict_of rows) ≡ status_of rows
 status_is rows = by (list_any row_fails rows)
   where
-    by : (b : Bool) → verdict_code (if b then Failed else Passed) ≡ (if b then 1 else 0)
+    by : (b : Bool) → verdict_exit_status (if b then Failed else Passed) ≡ (if b then 1 else 0)
     by true = refl
     by false = refl
 
 -- a run that is kept behind a quiet part is kept beside the files of before
-pub kept_through : (number : ℕ) (run : Run) (a b c : Option Folder) → Goes a b Rests → Goes b c (KeepsRunAndCaches number run) → Goes a c (KeepsRunAndCaches number run)
-kept_through number run a b c quiet kept = goes_then a b c Rests (KeepsRunAndCaches number run) (KeepsRunAndCaches number run) quiet kept (λ s m t rests keeps. record {
+pub kept_through : (number : ℕ) (run : Run) (a b c : Option Folder) → Goes a b KeepsReads → Goes b c (KeepsRunAndCaches number run) → Goes a c (KeepsRunAndCaches number run)
+kept_through number run a b c quiet kept = goes_then a b c KeepsReads (KeepsRunAndCaches number run) (KeepsRunAndCaches number run) quiet kept (λ s m t rests keeps. record {
   reads = subst (λ (files : Files). HasRunAndCaches files number run t.disk.published) rests.files keeps.reads;
   lasts = subst (λ (files : Files). (image : Files) → IsImage t.disk image → HasRunAndCaches files number run image) rests.files keeps.lasts;
   fresh = λ calm sound. keeps.fresh (rests_calm s m calm rests) (subst IsSound (sym rests.files) sound);
@@ -140,7 +140,7 @@ loaded_so options names a o t g r e k m found rows report opened took begun read
     subst (λ (l : List ℕ). Goes o.folder.told m.folder.told (KeepsRunAndCaches number (run_of options.partial l))) run_is
     (goes_cached number (run_of options.partial all.run) rows o.folder.told k.folder m.folder refreshed.at all.rows_are
     (run_kept number options.partial all.run o.folder.told e.folder.told k.folder.told (goes_writes o.folder.told g.folder.told e.folder.told all.run begins grows) kept.at.kept)) in
-    let quiet : Goes a.folder.told o.folder.told Rests = open_quiet a o (Ok found) opened.at in
+    let quiet : Goes a.folder.told o.folder.told KeepsReads = open_quiet a o (Ok found) opened.at in
     record {
       number = number;
       sources = recorded.sources;
@@ -157,7 +157,7 @@ loaded_so options names a o t g r e k m found rows report opened took begun read
       rows_are = rows_are;
     }
 
-pub load_did : (options : LoadOptions) (names : List (List ℕ)) (a b : Work) (v : Verdict) → Loads options names a b (Ok v) → LoadsAll options names a b (verdict_code v)
+pub load_did : (options : LoadOptions) (names : List (List ℕ)) (a b : Work) (v : Verdict) → Loads options names a b (Ok v) → LoadsAll options names a b (verdict_exit_status v)
 load_did options names a b v loads =
     let opened = then_did v loads in
     let took = then_did v opened.next in
@@ -184,7 +184,7 @@ load_did options names a b v loads =
       cached = subst (λ (f : Option Folder). Goes a.folder.told f BringsCaches) (sym folder_left) all.cached;
       stored = goes_weaker a.folder.told b.folder.told (KeepsRunAndCaches all.number (run_of options.partial (run_bytes all.events))) (AddsRun options.partial all.events) stored (adds_run options.partial all.number all.events);
       printed = reports options.partial options.format a.folder.told b.folder.told a.out.told b.out.told all.number all.events stored prints;
-      status = ap verdict_code (same_verdict gives.answer ∙ all.says.verdict) ∙ status_is (rows_of all.events);
+      status = ap verdict_exit_status (same_verdict gives.answer ∙ all.says.verdict) ∙ status_is (rows_of all.events);
     }
 
 -- ---- questions
@@ -195,7 +195,7 @@ record DidAnswer (question : Question) (before after : Shown) (v : Verdict) : Ty
   pub verdict : Verdict
   pub says : IfSome after.folder.told (SaysOfFolder question text verdict)
   pub printed : Appends before.out.told after.out.told text
-  pub status : verdict_code v ≡ verdict_code verdict
+  pub status : verdict_exit_status v ≡ verdict_exit_status verdict
 
 print_did : (question : Question) (m b : Shown) (v : Verdict) → PrintsAnswer question m b (Ok v) → DidAnswer question m b v
 print_did question m b v prints =
@@ -210,7 +210,7 @@ print_did question m b v prints =
       verdict = told.value.verdict;
       says = subst (λ (o : Option Folder). IfSome o (SaysOfFolder question text told.value.verdict)) (sym folder_left) says;
       printed = appended {z = printed.between.out.told} (λ i. (told.done.rest i).out.told) (λ i. (sym gives.same i).out.told) refl printed.done.at.whole;
-      status = ap verdict_code (same_verdict gives.answer);
+      status = ap verdict_exit_status (same_verdict gives.answer);
     }
 
 module _ (found : Found) where
@@ -225,7 +225,7 @@ module _ (found : Found) where
         verdict = Passed;
         says = subst (λ (w : Shown). IfSome w.folder.told (SaysOfFolder (Last true) bytes Passed)) (sym gives.same) says;
         printed = subst (λ (w : Shown). Appends m.out.told w.out.told bytes) (sym gives.same) copied.done.taken;
-        status = ap verdict_code (same_verdict gives.answer);
+        status = ap verdict_exit_status (same_verdict gives.answer);
       }
 
   answer_did : (question : Question) (m b : Shown) (v : Verdict) → (OfLastRun question → 0 < length (kinds_of found)) → IfSome m.folder.told (FitsFolder (kinds_of found)) → AnswersOf found question m b (Ok v) → DidAnswer question m b v
@@ -234,7 +234,7 @@ module _ (found : Found) where
     | inr prints ↦ print_did question m b v prints
   ]
 
-pub ask_did : (question : Question) (site : Seen Files) (spawner : Seen Spawning) (input : Seen (List ℕ)) (a b : Shown) (v : Verdict) → Asks question a b (Ok v) → AnswersQuestion question (of_shown site spawner input a) (of_shown site spawner input b) (verdict_code v)
+pub ask_did : (question : Question) (site : Seen Files) (spawner : Seen Spawning) (input : Seen (List ℕ)) (a b : Shown) (v : Verdict) → Asks question a b (Ok v) → AnswersQuestion question (of_shown site spawner input a) (of_shown site spawner input b) (verdict_exit_status v)
 ask_did question site spawner input a b v asks =
     let opened = then_did v asks in
     let had = then_did v opened.next in
@@ -246,7 +246,7 @@ ask_did question site spawner input a b v asks =
       text = did.text;
       verdict = did.verdict;
       says = did.says;
-      kept = goes_weaker a.folder.told b.folder.told Rests KeepsFiles (ask_quiet site spawner input question a b (Ok v) asks) (λ s t rests. rests.files);
+      kept = goes_weaker a.folder.told b.folder.told KeepsReads KeepsFiles (ask_quiet site spawner input question a b (Ok v) asks) (λ s t rests. rests.files);
       site = refl;
       spawner = refl;
       input = refl;

@@ -23,12 +23,12 @@ use Rattle.testr_words.specs.Drawings.{drawing_of}
 use Rattle.testr_words.specs.Tasks.{Task, load, run, list, selftest, task_of, task_with, quiet_of, live_of, live_for}
 use Rattle.testr_words.specs.declared.command.Verb.{Verb}
 use Rattle.testr_words.specs.declared.command.Verb.TheVariants as verb
-use Rattle.testr_words.specs.declared.drawing.Drawing.{Drawing}
+use Rattle.testr_words.specs.declared.selftest_words.SelfTestWords.{SelfTestWords}
 use Rattle.std.specs.Borrow.{Bor}
 use Rattle.std.specs.Prelude.{option_map}
 use Rattle.testr_words.specs.declared.command.Command.{Command}
 use Rattle.command_steps.specs.Outside.{Outside, Work, work_of, work_folder, work_site}
-use Rattle.command_steps.specs.Refusals.{code_of}
+use Rattle.command_steps.specs.Refusals.{exit_status}
 use Rattle.command_steps.specs.Files.{RecordsSources}
 use Rattle.command_steps.specs.Refreshing.{Refreshes}
 use Rattle.command_steps.specs.Reporting.{Report, Reports}
@@ -36,26 +36,26 @@ use Rattle.command_steps.specs.Runs.{run_bytes, KeepsFiles, AddsRun}
 use Rattle.command_steps.specs.Selecting.{Selects, Planned, Plans}
 use Rattle.command_steps.specs.Store.{Opens, TakesRun, Begins, Keeps}
 use Rattle.command_steps.specs.Working.{Works}
-use Rattle.command_steps.specs.declared.selecting.Selected.{Selected}
+use Rattle.command_steps.specs.declared.test_selection.Selected.{Selected}
 use Rattle.command_steps.specs.declared.answer.Refusal.{Refusal}
 use Rattle.command_steps.specs.declared.answer.Verdict.{Verdict}
 use Rattle.command_steps.specs.declared.answer.Verdict.TheVariants.{Passed, Failed}
-use Rattle.command_steps.proofs.Resting.{Rests, goes_ends}
+use Rattle.command_steps.proofs.Resting.{KeepsReads, goes_ends}
 use Rattle.command_steps.proofs.SoundLemmas.{KeepsRunAndCaches, adds_run}
-use Rattle.testr_commands.specs.Endings.{Ending, EndsRun, EndsLoad, Begun, Readied, ended_as, Ends, AddingLoad, Adding, LeavesRunEnd, LeavesText, LeavesLoadEnd, TellsLeft, TellsExpected, IsCodeOf, run_lines, none_ran, asks_tests}
-use Rattle.testr_commands.specs.Forced.{IsReady}
+use Rattle.testr_commands.specs.Endings.{Ending, EndsRun, EndsLoad, Begun, Readied, status_at_end, Ends, AddingLoad, Adding, LeavesRunEnd, LeavesText, LeavesLoadEnd, TellsLeft, TellsExpected, IsCodeOf, run_lines, none_ran, asks_tests}
+use Rattle.testr_commands.specs.Forced.{IsMadeReady}
 use Rattle.testr_commands.specs.Program.{Answers, PerformsOrNot, Tells}
 use Rattle.live_text.specs.declared.live.Live.{Live}
 use Rattle.suite_run.specs.Aloud.{Sinks}
-use Rattle.suite_run.specs.declared.ear.Shown.{Shown}
+use Rattle.suite_run.specs.declared.run_listener.Shown.{Shown}
 use Rattle.command_steps.specs.Speaking.{SaysAloud}
-use Rattle.command_steps.specs.declared.speaking.Silenced.{Silenced}
+use Rattle.command_steps.specs.declared.live_lines.Silenced.{Silenced}
 use Rattle.testr_commands.specs.SparingRun.{SparesRunOf}
 use Rattle.testr_commands.specs.Spoken.{HavePackets, TakesLines, Saying, packets_for}
 use Rattle.testr_commands.proofs.CallLemmas.{told_refused}
 use Rattle.testr_commands.proofs.DoneLaws.{kept_through, loaded_so}
 use Rattle.testr_commands.proofs.ForceLemmas.{reads_ready}
-use Rattle.testr_words.specs.declared.live.LiveKind.{LiveKind}
+use Rattle.testr_words.specs.declared.live_kind.LiveKind.{LiveKind}
 use Rattle.testr_commands.proofs.SpokenLemmas.{rose_lines, rose_still}
 use Rattle.testr_commands.proofs.StepLaws.{open_quiet}
 use Rattle.testr_commands.proofs.SuiteDone.{leaves_then, select_leaves, plan_leaves, work_did, seen_same}
@@ -111,7 +111,7 @@ adding_nothing wrap expected asked promises before after answer is rest = subst 
 pub begun_readied : (e : Ending) (before : Work) (folder : Option Folder) (text : List ℕ) (fails : Bool) → Begun e before folder text fails → Readied e before folder text fails
 begun_readied e before folder text fails given = inl given
 
-pub ready_readied : (before ready : Outside) → IsReady before ready → (e : Ending) (folder : Option Folder) (text : List ℕ) (fails : Bool) → Begun e (work_of ready) folder text fails → Readied e (work_of before) folder text fails
+pub ready_readied : (before ready : Outside) → IsMadeReady before ready → (e : Ending) (folder : Option Folder) (text : List ℕ) (fails : Bool) → Begun e (work_of ready) folder text fails → Readied e (work_of before) folder text fails
 ready_readied before ready is e folder text fails given = inr (work_of ready, ap work_of is.rest, reads_ready before ready is, given)
 
 -- ---- the steps of a run that was told of
@@ -132,7 +132,7 @@ module _ (folder : List ℕ) (c : Command) (settings : Settings) (a m b : Work) 
       let site : m.site ≡ a.site = seen_same a.site m.site conf.same (conf.count.stands refl) in
       let first : m ≡ a = rest ∙ ap (work_site.put a) site in
       let opened : begin ≡ work_folder.put a begin.folder = given.opens.rest ∙ (λ i. work_folder.put (first i) begin.folder) in
-      let quiet : Goes a.folder.told begin.folder.told Rests = goes_ends Rests (λ i. (first i).folder.told) refl (open_quiet m begin (Ok given.found) given.opens.at) in
+      let quiet : Goes a.folder.told begin.folder.told KeepsReads = goes_ends KeepsReads (λ i. (first i).folder.told) refl (open_quiet m begin (Ok given.found) given.opens.at) in
       let kept : Goes begin.folder.told given.worked.folder.told (KeepsRunAndCaches (length kinds) kept_run) = goes_ends (KeepsRunAndCaches (length kinds) kept_run) before.folder refl work.kept in
       let keeps : Goes begin.folder.told b.folder.told (KeepsRunAndCaches (length kinds) kept_run) = goes_ends (KeepsRunAndCaches (length kinds) kept_run) refl (sym given.still) kept in
       let stored : Goes a.folder.told b.folder.told (KeepsRunAndCaches (length kinds) kept_run) = kept_through (length kinds) kept_run a.folder.told begin.folder.told b.folder.told quiet keeps in
@@ -145,7 +145,7 @@ module _ (folder : List ℕ) (c : Command) (settings : Settings) (a m b : Work) 
           conf = conf.conf;
           opened = begin;
           opened_is = opened;
-          opened_files = goes_weaker a.folder.told begin.folder.told Rests KeepsFiles quiet (λ s t rests. rests.files);
+          opened_files = goes_weaker a.folder.told begin.folder.told KeepsReads KeepsFiles quiet (λ s t rests. rests.files);
           selected = given.selected;
           selecting = given.selecting;
           selects = given.selects;
@@ -175,26 +175,26 @@ load_end loading names ids a b text fails given =
 
 -- ---- what was told
 
-few_code : (verdict : Verdict) → 2 ≤ code_of (Ok verdict) → ⊥
+few_code : (verdict : Verdict) → 2 ≤ exit_status (Ok verdict) → ⊥
 few_code Passed two = omega (arith, two)
 few_code Failed two = omega (arith, two)
 
 -- what was left was told of what was done
-pub left_done : (verdict : Verdict) (text : List ℕ) (fails : Bool) (before after : Seen (List ℕ)) (failed : Bool) (answer : ℕ) → Takes text before after failed → answer ≡ ended_as fails (code_of (Ok verdict)) → TellsLeft (Ok verdict) text fails before after answer
-left_done verdict text fails before after failed answer takes is = record { inner = code_of (Ok verdict); told = before; tells = record { line = refl; code = refl }; refused = λ two. absurd (few_code verdict two); done = λ small. (failed, takes, is) }
+pub left_done : (verdict : Verdict) (text : List ℕ) (fails : Bool) (before after : Seen (List ℕ)) (failed : Bool) (answer : ℕ) → Takes text before after failed → answer ≡ status_at_end fails (exit_status (Ok verdict)) → TellsLeft (Ok verdict) text fails before after answer
+left_done verdict text fails before after failed answer takes is = record { inner = exit_status (Ok verdict); told = before; tells = record { line = refl; code = refl }; refused = λ two. absurd (few_code verdict two); done = λ small. (failed, takes, is) }
 
 -- of a refusal nothing is left
 pub left_refused : (refusal : Refusal) (text : List ℕ) (fails : Bool) (before after : Seen (List ℕ)) (answer : ℕ) → Tells (Err refusal) before after answer → TellsLeft (Err refusal) text fails before after answer
 left_refused refusal text fails before after answer tells = record { inner = answer; told = after; tells = tells; refused = λ two. (refl, refl); done = λ small. absurd (told_refused refusal answer tells.code small) }
 
-pub refused_code : (refusal : Refusal) (fails : Bool) (answer : ℕ) → answer ≡ code_of (Err refusal) → (2 ≤ code_of (Err refusal) → answer ≡ code_of (Err refusal)) × (code_of (Err refusal) ≤ 1 → answer ≡ ended_as fails (code_of (Err refusal)))
+pub refused_code : (refusal : Refusal) (fails : Bool) (answer : ℕ) → answer ≡ exit_status (Err refusal) → (2 ≤ exit_status (Err refusal) → answer ≡ exit_status (Err refusal)) × (exit_status (Err refusal) ≤ 1 → answer ≡ status_at_end fails (exit_status (Err refusal)))
 refused_code refusal fails answer is = (λ two. is, λ small. absurd (told_refused refusal answer is (subst (λ (n : ℕ). n ≤ 1) (sym is) small)))
 
-pub done_code : (verdict : Verdict) (fails : Bool) (answer : ℕ) → answer ≡ ended_as fails (code_of (Ok verdict)) → (2 ≤ code_of (Ok verdict) → answer ≡ code_of (Ok verdict)) × (code_of (Ok verdict) ≤ 1 → answer ≡ ended_as fails (code_of (Ok verdict)))
+pub done_code : (verdict : Verdict) (fails : Bool) (answer : ℕ) → answer ≡ status_at_end fails (exit_status (Ok verdict)) → (2 ≤ exit_status (Ok verdict) → answer ≡ exit_status (Ok verdict)) × (exit_status (Ok verdict) ≤ 1 → answer ≡ status_at_end fails (exit_status (Ok verdict)))
 done_code verdict fails answer is = (λ two. absurd (few_code verdict two), λ small. is)
 
 -- so the call ends
-pub left_ends : (ending : Ending) (asked : Option Task) (before after : Outside) (answer : ℕ) (outcome : Result Verdict Refusal) (text : List ℕ) (fails : Bool) → PerformsOrNot false asked (work_of before) (work_of after) outcome → TellsLeft outcome text fails before.errors after.errors answer → (code_of outcome ≤ 1 → ending (work_of before) after.folder.told text fails) → Ends ending (Answers false asked) before after answer
+pub left_ends : (ending : Ending) (asked : Option Task) (before after : Outside) (answer : ℕ) (outcome : Result Verdict Refusal) (text : List ℕ) (fails : Bool) → PerformsOrNot false asked (work_of before) (work_of after) outcome → TellsLeft outcome text fails before.errors after.errors answer → (exit_status outcome ≤ 1 → ending (work_of before) after.folder.told text fails) → Ends ending (Answers false asked) before after answer
 left_ends ending asked before after answer outcome text fails performed left is = record {
   inner = left.inner;
   told = left.told;
@@ -208,7 +208,7 @@ left_ends ending asked before after answer outcome text fails performed left is 
 -- ---- by the status
 
 -- whether the command was done is told by what it would have answered
-few_ended : (fails : Bool) (inner : ℕ) → inner ≤ 1 → ended_as fails inner ≤ 1
+few_ended : (fails : Bool) (inner : ℕ) → inner ≤ 1 → status_at_end fails inner ≤ 1
 few_ended true inner small = omega arith
 few_ended false inner small = small
 
@@ -217,7 +217,7 @@ cases_code zero = inl (omega arith)
 cases_code (suc zero) = inl (omega arith)
 cases_code (suc (suc n)) = inr (omega arith)
 
-module _ (answer code : ℕ) (fails : Bool) (is : (2 ≤ code → answer ≡ code) × (code ≤ 1 → answer ≡ ended_as fails code)) where
+module _ (answer code : ℕ) (fails : Bool) (is : (2 ≤ code → answer ≡ code) × (code ≤ 1 → answer ≡ status_at_end fails code)) where
   pub few_code_of : answer ≤ 1 → code ≤ 1
   few_code_of small = elim (cases_code code) [
     | inl few ↦ few
@@ -230,7 +230,7 @@ module _ (answer code : ℕ) (fails : Bool) (is : (2 ≤ code → answer ≡ cod
     | inr two ↦ sym (is.0 two) ∙ three
   ]
 
-  passes_of : (f : Bool) → answer ≡ ended_as f code → answer ≡ 0 → code ≡ 0
+  passes_of : (f : Bool) → answer ≡ status_at_end f code → answer ≡ 0 → code ≡ 0
   passes_of true ended none = absurd (omega (arith, ended, none))
   passes_of false ended none = sym ended ∙ none
 
@@ -242,7 +242,7 @@ module _ (answer code : ℕ) (fails : Bool) (is : (2 ≤ code → answer ≡ cod
 
 -- ---- what is said, and how few calls there are, by the status that was told
 
-module _ (answer code : ℕ) (fails : Bool) (is : (2 ≤ code → answer ≡ code) × (code ≤ 1 → answer ≡ ended_as fails code)) where
+module _ (answer code : ℕ) (fails : Bool) (is : (2 ≤ code → answer ≡ code) × (code ≤ 1 → answer ≡ status_at_end fails code)) where
   pub says_ended : {early : Bool} (shown : Shown) (partial : Bool) (folder : Option Folder) (before after : Sinks) (silenced : Silenced) → SaysAloud shown early partial code folder before after silenced → SaysAloud shown early partial answer folder before after silenced
   says_ended shown partial folder before after silenced says = record {
     some = says.some;
@@ -335,7 +335,7 @@ leaves_load loading names ids a recorded b opened begun kept refreshed found row
 
 -- ---- of which task
 
-drawn_adds : (wrap : Ending → Ending) (expected : Option Ids) (drawn : Option Drawing) (promises : Outside → Outside → ℕ → Type 0) (before after : Outside) (answer : ℕ) → promises before after answer → Adding wrap expected (option_map selftest drawn) promises before after answer
+drawn_adds : (wrap : Ending → Ending) (expected : Option Ids) (drawn : Option SelfTestWords) (promises : Outside → Outside → ℕ → Type 0) (before after : Outside) (answer : ℕ) → promises before after answer → Adding wrap expected (option_map selftest drawn) promises before after answer
 drawn_adds wrap expected None promises before after answer rest = rest
 drawn_adds wrap expected (Some drawing) promises before after answer rest = rest
 
@@ -352,7 +352,7 @@ draw_adds folder c expected before after answer is rest =
 pub run_adds : (folder : List ℕ) (c : Command) (expected : Option Ids) (before after : Outside) (answer : ℕ) → c.verb ≡ verb.Run → Saying c.live (task_with folder verb.Run c) (Adding Begun None (task_with folder verb.Run c) (Answers false (task_with folder verb.Run c))) before after answer → Saying (live_of folder c) (task_of folder c) (Adding Begun expected (task_of folder c) (Answers false (task_of folder c))) before after answer
 run_adds folder c expected before after answer is says = subst (λ (v : Verb). Saying (live_for c.live (task_with folder v c)) (task_with folder v c) (Adding Begun expected (task_with folder v c) (Answers false (task_with folder v c))) before after answer) (sym is) says
 
-quiet_drawn : (expected : Option Ids) (drawn : Option Drawing) (promises : Outside → Outside → ℕ → Type 0) (before after : Outside) (answer : ℕ) → promises before after answer → Adding Begun expected (quiet_of (option_map selftest drawn)) promises before after answer
+quiet_drawn : (expected : Option Ids) (drawn : Option SelfTestWords) (promises : Outside → Outside → ℕ → Type 0) (before after : Outside) (answer : ℕ) → promises before after answer → Adding Begun expected (quiet_of (option_map selftest drawn)) promises before after answer
 quiet_drawn expected None promises before after answer rest = rest
 quiet_drawn expected (Some drawing) promises before after answer rest = rest
 
@@ -364,7 +364,7 @@ other_expected folder v c expected promises before after answer other rest = res
 
 -- ---- where ids are expected of a load, or not
 
-pub code_left : (answer code : ℕ) (fails : Bool) → (2 ≤ code → answer ≡ code) × (code ≤ 1 → answer ≡ ended_as fails code) → IsCodeOf code answer
+pub code_left : (answer code : ℕ) (fails : Bool) → (2 ≤ code → answer ≡ code) × (code ≤ 1 → answer ≡ status_at_end fails code) → IsCodeOf code answer
 code_left answer code fails is = record { few = few_code_of answer code fails is; three = three_code_of answer code fails is; none = none_code_of answer code fails is }
 
 pub code_same : (answer code : ℕ) → answer ≡ code → IsCodeOf code answer
@@ -377,7 +377,7 @@ says_coded answer code shown partial folder before after silenced is says = reco
   whole = λ small. says.whole (is.few small);
 }
 
-pub expected_ends : (expected : Option Ids) (partial : Bool) (asked : Option Task) (before after : Outside) (answer : ℕ) (outcome : Result Verdict Refusal) (text : List ℕ) (fails : Bool) → PerformsOrNot false asked (work_of before) (work_of after) outcome → TellsExpected expected outcome text fails before.errors after.errors answer → IfSome expected (λ ids. code_of outcome ≤ 1 → EndsLoad partial ids (work_of before) after.folder.told text fails) → AddingLoad Begun expected partial (Answers false asked) before after answer
+pub expected_ends : (expected : Option Ids) (partial : Bool) (asked : Option Task) (before after : Outside) (answer : ℕ) (outcome : Result Verdict Refusal) (text : List ℕ) (fails : Bool) → PerformsOrNot false asked (work_of before) (work_of after) outcome → TellsExpected expected outcome text fails before.errors after.errors answer → IfSome expected (λ ids. exit_status outcome ≤ 1 → EndsLoad partial ids (work_of before) after.folder.told text fails) → AddingLoad Begun expected partial (Answers false asked) before after answer
 expected_ends None partial asked before after answer outcome text fails performed tells is = record { outcome = outcome; done = performed; told = tells }
 expected_ends (Some ids) partial asked before after answer outcome text fails performed tells is = left_ends (EndsLoad partial ids) asked before after answer outcome text fails performed tells is
 

@@ -2,13 +2,13 @@
 use Rattle.std.proofs.Common.{◌≡◌, ◌<◌, ◌≤◌, ℕ, ◌⊎◌, inl, inr, Option, None, Some, IfSome, IsSomeAnd, All, Result, Ok, Err, List, [], ◌∷◌, ◌++◌, length, map, refl, sym, subst, ◌∙◌}
 use Rattle.std.proofs.lemmas.List.Elements.{All-nil, All-cons, All-head, All-tail}
 use Rattle.edge_io.specs.Disk.{Files}
+use Rattle.edge_io.specs.Limits.{most_bytes}
 use Rattle.outcome_fold.specs.declared.row.Row.{Row}
-use Rattle.command_steps.specs.declared.recording.RecordFault.{RecordFault}
-use Rattle.command_steps.specs.declared.recording.RecordFault.TheVariants as record_fault
+use Rattle.command_steps.specs.declared.input_recorder.RecordFault.{RecordFault}
+use Rattle.command_steps.specs.declared.input_recorder.RecordFault.TheVariants as record_fault
 use Rattle.testr_commands.specs.Exact.{RecordEnds, IsNoFile, IsFileTooLong}
 use Rattle.command_steps.specs.Files.{RecordsInTurn, RecordsAllFiles, RecordsFiles, StopsAtFile}
 use Rattle.command_steps.specs.Outside.{Filed}
-use Rattle.command_steps.specs.Recording.{most_bytes}
 use Rattle.testr_commands.proofs.CauseLaws.{IsShort, short_at, not_absent, not_both}
 
 -- what was recorded was there, and not too long

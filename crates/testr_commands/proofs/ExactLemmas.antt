@@ -5,6 +5,7 @@ use Rattle.std.specs.Io.KnownBytes.{Consumes, IsAtEnd}
 use Rattle.edge_io.specs.Disk.{Folder, Files}
 use Rattle.edge_io.specs.Seen.{Seen}
 use Rattle.edge_io.specs.Steps.{Goes}
+use Rattle.edge_io.specs.Limits.{most_bytes}
 use Rattle.outcome_fold.specs.declared.row.Row.{Row}
 use Rattle.run_shelf.specs.declared.faults.InitFault.{InitFault}
 use Rattle.run_shelf.specs.declared.faults.InitFault.TheVariants as init_fault
@@ -14,15 +15,15 @@ use Rattle.run_shelf.specs.declared.found.Found.{Found}
 use Rattle.run_shelf.specs.Outcomes.{Surveys}
 use Rattle.run_shelf.specs.Repository.{run_at, format_name, HasFormat, HasOtherFormat, HasBadBase, IsGap, IsRepository, most_runs}
 use Rattle.testr_words.specs.declared.command.Question.{Question}
-use Rattle.command_steps.specs.declared.recording.RecordFault.{RecordFault}
-use Rattle.command_steps.specs.declared.recording.RecordFault.TheVariants as record_fault
+use Rattle.command_steps.specs.declared.input_recorder.RecordFault.{RecordFault}
+use Rattle.command_steps.specs.declared.input_recorder.RecordFault.TheVariants as record_fault
 use Rattle.command_steps.specs.declared.store.RunsFault.{RunsFault}
 use Rattle.command_steps.specs.declared.store.RunsFault.TheVariants.{Full, NoRuns}
-use Rattle.command_steps.specs.declared.told.TellFault.{TellFault}
-use Rattle.command_steps.specs.declared.told.TellFault.TheVariants as tell_fault
+use Rattle.command_steps.specs.declared.question_answers.TellFault.{TellFault}
+use Rattle.command_steps.specs.declared.question_answers.TellFault.TheVariants as tell_fault
 use Rattle.testr_commands.specs.Exact.{InitEnds, OpenEnds, RecordEnds}
 use Rattle.command_steps.specs.Outside.{Fed}
-use Rattle.command_steps.specs.Recording.{Records, RecordsAll, most_bytes}
+use Rattle.command_steps.specs.Recording.{Records, RecordsAll}
 use Rattle.command_steps.specs.Refreshing.{Refreshes}
 use Rattle.testr_words.specs.Questions.{OfLastRun}
 use Rattle.command_steps.specs.Store.{Makes, Opens, TakesRun, HasRunFor}

@@ -1,6 +1,6 @@
 -- Where the cause of a named refusal of a step of `run` or `list-tests` is there, it comes.
 use Rattle.suite_run.specs.NoneLost.{AreAllShort}
-use Rattle.command_steps.specs.declared.planning.LongId.{LongId}
+use Rattle.command_steps.specs.declared.work_plan.LongId.{LongId}
 use Rattle.std.proofs.Common.{◌≡◌, ◌⊎◌, inl, inr, ℕ, ℤ, ◌<◌, ◌≤◌, pos, true, Option, None, Some, IfSome, IsSome, IsSomeAnd, IfOk, IfErr, IsOk, IsErr, All, Result, Ok, Err, List, [], ◌∷◌, ◌++◌, length, slice_index_or, refl, sym, ap, subst, ◌∙◌, arith}
 use Rattle.edge_io.specs.Children.{Output}
 use Rattle.edge_io.specs.Disk.{Files}
@@ -13,8 +13,8 @@ use Rattle.edge_io.specs.declared.job.Job.{Job}
 use Rattle.isolation_bisect.specs.declared.found.Found.{Found}
 use Rattle.suite_causes.specs.Analysis.{UsesNoBroken}
 use Rattle.suite_causes.specs.Searching.{Searches, SearchesSo, probe_job}
-use Rattle.suite_causes.specs.declared.searching.SearchFault.{SearchFault}
-use Rattle.suite_causes.specs.declared.searching.SearchFault.TheVariants as search_fault
+use Rattle.suite_causes.specs.declared.cause_search.SearchFault.{SearchFault}
+use Rattle.suite_causes.specs.declared.cause_search.SearchFault.TheVariants as search_fault
 use Rattle.suite_causes.proofs.AnalysisLemmas.{none_broken}
 use Rattle.suite_plan.specs.Calling.{TellsNumber, TellsNone, CallsSo, HasCallCause, CallsOut}
 use Rattle.suite_plan.specs.Children.{IsBroken, StartsFor}
@@ -37,12 +37,12 @@ use Rattle.suite_plan.specs.declared.pattern_list.PatternListRefusal.{PatternLis
 use Rattle.suite_plan.specs.declared.pattern_list.PatternListRefusal.TheVariants as pattern_list
 use Rattle.suite_plan.specs.Processors.{GivesProcessors, CountsProcessors, table_name}
 use Rattle.suite_plan.specs.Texts.{most_text, HasTooMuch}
-use Rattle.suite_plan.specs.declared.calling.CallRefusal.{CallRefusal}
-use Rattle.suite_plan.specs.declared.calling.CallRefusal.TheVariants as call
+use Rattle.suite_plan.specs.declared.count_command.CallRefusal.{CallRefusal}
+use Rattle.suite_plan.specs.declared.count_command.CallRefusal.TheVariants as call
 use Rattle.suite_plan.specs.declared.conf_file.ConfRefusal.{ConfRefusal}
 use Rattle.suite_plan.specs.declared.conf_file.ConfRefusal.TheVariants as conf
-use Rattle.suite_plan.specs.declared.listing.ListingRefusal.{ListingRefusal}
-use Rattle.suite_plan.specs.declared.listing.ListingRefusal.TheVariants as listing
+use Rattle.suite_plan.specs.declared.test_listing.ListingRefusal.{ListingRefusal}
+use Rattle.suite_plan.specs.declared.test_listing.ListingRefusal.TheVariants as listing
 use Rattle.suite_plan.specs.declared.load_list.ListRefusal.{ListRefusal}
 use Rattle.suite_plan.specs.declared.load_list.ListRefusal.TheVariants as load_list
 use Rattle.suite_plan.specs.declared.processors.TableRefusal.{TableRefusal}
@@ -55,7 +55,7 @@ use Rattle.testr_conf.specs.declared.fault.JobFault.TheVariants as job_fault
 use Rattle.testr_conf.specs.declared.ids.IdsFault.{IdsFault}
 use Rattle.testr_conf.specs.declared.ids.IdsFault.TheVariants.{NotText}
 use Rattle.testr_commands.specs.ExactSuite.{Comes, NextMeets, IsNamedBad, ListEnds, IsListAbsent, IsListTooLong, IsNoId, PatternsEnd, IsPatternsAbsent, IsPatternsTooLong, IsNoText, IsBadLine}
-use Rattle.command_steps.specs.Selecting.{HandsIds, MakesJobs, NamesIds, asked_of}
+use Rattle.command_steps.specs.Selecting.{HandsIds, MakesJobs, NamesIds, ids_of_shares}
 use Rattle.testr_commands.proofs.SuiteCauses.{from_both, not_too_much, same_text, not_refused, regex_never, not_ok}
 use Rattle.testr_commands.proofs.SuiteNever.{no_number}
 
@@ -369,7 +369,7 @@ module _ (settings : Settings) (before after : Seen Spawning) (result : Result I
 
 -- ---- the jobs
 
-pub long_id : (shares : Option (List Ids)) (result : Result (Unit {0}) LongId) → NamesIds shares result → (AreAllShort (asked_of shares) → ⊥) → IsErr result
+pub long_id : (shares : Option (List Ids)) (result : Result (Unit {0}) LongId) → NamesIds shares result → (AreAllShort (ids_of_shares shares) → ⊥) → IsErr result
 long_id shares (Ok done) names long = absurd (long names.named)
 long_id shares (Err fault) names long = refl
 

@@ -21,7 +21,7 @@ use Rattle.run_shelf.proofs.ShowsLemmas.{shown}
 use Rattle.suite_causes.specs.Analysis.{AreSearched, HaveLines}
 use Rattle.suite_causes.specs.Lines.{cause_line}
 use Rattle.suite_causes.specs.Ran.{AreRan, HasRanAt}
-use Rattle.suite_causes.specs.Searching.{Ids, IsAmong, SearchesSo, StopsSearch}
+use Rattle.suite_causes.specs.Searching.{TestIds, IsAmong, SearchesSo, StopsSearch}
 use Rattle.suite_causes.specs.Suspects.{candidates_of, ran_ids, suspects_of}
 use Rattle.suite_causes.specs.declared.suspects.Suspect.{Suspect}
 use Rattle.testr_conf.specs.Settings.{Settings}
@@ -43,9 +43,9 @@ use Rattle.command_steps.proofs.SoundLemmas.{IsCalm, KeepsRunAndCaches}
 
 -- what is read of the run of this number is what these events tell
 abbrev pub TellsEvents : (number : ℕ) → List Event → Folder → Type 0
-TellsEvents number events s = (lane : ℕ) (ids : Ids) → HasRanAt number lane ids s → ids ≡ ran_ids lane events
+TellsEvents number events s = (lane : ℕ) (ids : TestIds) → HasRanAt number lane ids s → ids ≡ ran_ids lane events
 
-same_ran : (lane : ℕ) (events : List Event) (ids : Ids) → All IsEvent events → All Fits events → AreRan lane (run_bytes events) ids → ids ≡ ran_ids lane events
+same_ran : (lane : ℕ) (events : List Event) (ids : TestIds) → All IsEvent events → All Fits events → AreRan lane (run_bytes events) ids → ids ≡ ran_ids lane events
 same_ran lane events ids are fit ran =
     ran.ids_are ∙ ap (ran_ids lane) (one_events (run_bytes events) ran.events events (packets_bytes events are) ran.told (written events are fit))
 
@@ -73,44 +73,44 @@ tells_behind partial number events a b c R are fit first calm kept =
 
 -- ---- what the steps leave
 
-abbrev pub told_of : Work → Option Folder
-told_of w = w.folder.told
+abbrev pub folder_told : Work → Option Folder
+folder_told w = w.folder.told
 
-among_still : (settings : Settings) (test : List ℕ) (candidates : Ids) → LeavesPart (λ (w : Work). w.folder) (FindsAmong settings test candidates)
+among_still : (settings : Settings) (test : List ℕ) (candidates : TestIds) → LeavesPart (λ (w : Work). w.folder) (FindsAmong settings test candidates)
 among_still settings test candidates =
     then_leaves (λ (w : Work). w.folder) (λ a b r s i. (s.rest i).folder) (λ found.
     then_leaves (λ (w : Work). w.folder) (λ a b r s i. (s.rest i).folder) (λ _ a b r s i.
     (s.same i).folder))
 
-pub cause_still : (settings : Settings) (number : ℕ) (one : Suspect) → LeavesPart told_of (FindsCause settings number one)
+pub cause_still : (settings : Settings) (number : ℕ) (one : Suspect) → LeavesPart folder_told (FindsCause settings number one)
 cause_still settings number one =
-    then_leaves told_of (λ a b r s. stays_is a.folder.told b.folder.told s.at.same) (λ ids a b r s i. (among_still settings one.id (candidates_in one.id ids) a b r s i).told)
+    then_leaves folder_told (λ a b r s. stays_is a.folder.told b.folder.told s.at.same) (λ ids a b r s i. (among_still settings one.id (candidates_in one.id ids) a b r s i).told)
 
-each_still : (settings : Settings) (number : ℕ) (left : List Suspect) → LeavesPart told_of (FindsEach settings number left)
+each_still : (settings : Settings) (number : ℕ) (left : List Suspect) → LeavesPart folder_told (FindsEach settings number left)
 each_still settings number [] = λ a b r s i. (s.same i).folder.told
-each_still settings number (one ∷ more) = then_leaves told_of (cause_still settings number one) (λ _. each_still settings number more)
+each_still settings number (one ∷ more) = then_leaves folder_told (cause_still settings number one) (λ _. each_still settings number more)
 
-pub causes_still : (asked : Bool) (settings : Settings) (number : ℕ) (rows : List Row) → LeavesPart told_of (FindsCauses asked settings number rows)
+pub causes_still : (asked : Bool) (settings : Settings) (number : ℕ) (rows : List Row) → LeavesPart folder_told (FindsCauses asked settings number rows)
 causes_still false settings number rows = λ a b r s i. (s.same i).folder.told
-causes_still true settings number rows = then_leaves told_of (λ a b r s i. (s.same i).folder.told) (λ suspects. each_still settings number suspects)
+causes_still true settings number rows = then_leaves folder_told (λ a b r s i. (s.same i).folder.told) (λ suspects. each_still settings number suspects)
 
-abbrev pub input_of : Work → Seen (List ℕ)
-input_of w = w.input
+abbrev pub input_seen : Work → Seen (List ℕ)
+input_seen w = w.input
 
-cause_input : (settings : Settings) (number : ℕ) (one : Suspect) → LeavesPart input_of (FindsCause settings number one)
+cause_input : (settings : Settings) (number : ℕ) (one : Suspect) → LeavesPart input_seen (FindsCause settings number one)
 cause_input settings number one =
-    then_leaves input_of (λ a b r s i. (s.rest i).input) (λ ids.
-    then_leaves input_of (λ a b r s i. (s.rest i).input) (λ found.
-    then_leaves input_of (λ a b r s i. (s.rest i).input) (λ _ a b r s i.
+    then_leaves input_seen (λ a b r s i. (s.rest i).input) (λ ids.
+    then_leaves input_seen (λ a b r s i. (s.rest i).input) (λ found.
+    then_leaves input_seen (λ a b r s i. (s.rest i).input) (λ _ a b r s i.
     (s.same i).input)))
 
-each_input : (settings : Settings) (number : ℕ) (left : List Suspect) → LeavesPart input_of (FindsEach settings number left)
+each_input : (settings : Settings) (number : ℕ) (left : List Suspect) → LeavesPart input_seen (FindsEach settings number left)
 each_input settings number [] = λ a b r s i. (s.same i).input
-each_input settings number (one ∷ more) = then_leaves input_of (cause_input settings number one) (λ _. each_input settings number more)
+each_input settings number (one ∷ more) = then_leaves input_seen (cause_input settings number one) (λ _. each_input settings number more)
 
-pub causes_input : (asked : Bool) (settings : Settings) (number : ℕ) (rows : List Row) → LeavesPart input_of (FindsCauses asked settings number rows)
+pub causes_input : (asked : Bool) (settings : Settings) (number : ℕ) (rows : List Row) → LeavesPart input_seen (FindsCauses asked settings number rows)
 causes_input false settings number rows = λ a b r s i. (s.same i).input
-causes_input true settings number rows = then_leaves input_of (λ a b r s i. (s.same i).input) (λ suspects. each_input settings number suspects)
+causes_input true settings number rows = then_leaves input_seen (λ a b r s i. (s.same i).input) (λ suspects. each_input settings number suspects)
 
 -- ---- nothing more
 
@@ -137,23 +137,23 @@ pub record TakesPart (lines : List ℕ) (old new : Option (List ℕ)) : Type 0 w
 -- ---- where the folder is told
 
 module _ (settings : Settings) (number : ℕ) (events : List Event) (s : Folder) (tells : TellsEvents number events s) where
-  abbrev pub before_of : Suspect → Ids
+  abbrev pub before_of : Suspect → TestIds
   before_of one = candidates_of one.id one.lane events
 
-  abbrev pub line_of : Suspect → Found → List ℕ
-  line_of one found = cause_line one.id (before_of one) found
+  abbrev pub line_of_cause : Suspect → Found → List ℕ
+  line_of_cause one found = cause_line one.id (before_of one) found
 
-  pub ids_so : (one : Suspect) (a k b : Work) (ids : Ids) (result : Result (Unit {0}) Refusal) → a.folder.told ≡ Some s → FindsRan number one.lane a.folder k.folder (Ok ids) → FindsAmong settings one.id (candidates_in one.id ids) k b result → FindsAmong settings one.id (before_of one) k b result
+  pub ids_so : (one : Suspect) (a k b : Work) (ids : TestIds) (result : Result (Unit {0}) Refusal) → a.folder.told ≡ Some s → FindsRan number one.lane a.folder k.folder (Ok ids) → FindsAmong settings one.id (candidates_in one.id ids) k b result → FindsAmong settings one.id (before_of one) k b result
   ids_so one a k b ids result told finds among =
       let ids_are : ids ≡ ran_ids one.lane events = tells one.lane ids (subst (λ (o : Option Folder). IfSome o (HasRanAt number one.lane ids)) told finds.ids) in
-      subst (λ (l : Ids). FindsAmong settings one.id (candidates_in one.id l) k b result) ids_are among
+      subst (λ (l : TestIds). FindsAmong settings one.id (candidates_in one.id l) k b result) ids_are among
 
   -- the test was searched, and its line was printed
   pub record SearchedOne (one : Suspect) (a b : Work) : Type 0 where
     pub found : Found
     pub among : IsAmong (before_of one) found
     pub searched : Goes a.spawner.told b.spawner.told (SearchesSo settings (before_of one) one.id found)
-    pub printed : Appends a.out.told b.out.told (line_of one found)
+    pub printed : Appends a.out.told b.out.told (line_of_cause one found)
 
   pub cause_did : (one : Suspect) (a b : Work) (v : Unit {0}) → a.folder.told ≡ Some s → FindsCause settings number one a b (Ok v) → SearchedOne one a b
   cause_did one a b v told finds =
@@ -191,11 +191,11 @@ module _ (settings : Settings) (number : ℕ) (events : List Event) (s : Folder)
       let did = cause_did one a m first.value told first.done in
       let rest = each_did more m b v (cause_still settings number one a m (Ok first.value) first.done ∙ told) first.next in
       record {
-        lines = line_of one did.found ++ rest.lines;
+        lines = line_of_cause one did.found ++ rest.lines;
         have = record { found = did.found; among = did.among; more = rest.lines; text_is = refl; rest = rest.have };
-        searched = goes_then a.spawner.told m.spawner.told b.spawner.told (SearchesSo settings (before_of one) one.id did.found) (AreSearched settings events more rest.lines) (AreSearched settings events (one ∷ more) (line_of one did.found ++ rest.lines)) did.searched rest.searched
+        searched = goes_then a.spawner.told m.spawner.told b.spawner.told (SearchesSo settings (before_of one) one.id did.found) (AreSearched settings events more rest.lines) (AreSearched settings events (one ∷ more) (line_of_cause one did.found ++ rest.lines)) did.searched rest.searched
             (λ x y z p q. record { found = did.found; between = y; searched = p; more = rest.lines; text_is = refl; rest = q });
-        printed = Appends-trans a.out.told m.out.told b.out.told (line_of one did.found) rest.lines did.printed rest.printed;
+        printed = Appends-trans a.out.told m.out.told b.out.told (line_of_cause one did.found) rest.lines did.printed rest.printed;
       }
 
   -- ---- at each exit
@@ -244,13 +244,13 @@ module _ (settings : Settings) (number : ℕ) (events : List Event) (s : Folder)
     done = one ∷ [];
     more = more;
     left_is = refl;
-    lines = line_of one found ++ [];
+    lines = line_of_cause one found ++ [];
     have = record { found = found; among = step.at.among; more = []; text_is = refl; rest = refl };
-    asked = goes_weaker a.spawner.told b.spawner.told (SearchesSo settings (before_of one) one.id found) (SearchesThen settings events (one ∷ []) more (line_of one found ++ []))
+    asked = goes_weaker a.spawner.told b.spawner.told (SearchesSo settings (before_of one) one.id found) (SearchesThen settings events (one ∷ []) more (line_of_cause one found ++ []))
         (goes_ends (SearchesSo settings (before_of one) one.id found) spawner (sym (λ i. (printed.rest i).spawner.told)) step.at.found)
         (λ x y so. record { between = y; searched = record { found = found; between = y; searched = so; more = []; text_is = refl; rest = (refl, refl) }; ended = inl refl });
-    taken = line_taken (line_of one found) a.out.told b.out.told printed.at.prefix.0
-        (subst (λ (o : Option (List ℕ)). Appends o b.out.told (take printed.at.prefix.0 (line_of one found))) ((λ i. (step.rest i).out.told) ∙ out) printed.at.prefix.2);
+    taken = line_taken (line_of_cause one found) a.out.told b.out.told printed.at.prefix.0
+        (subst (λ (o : Option (List ℕ)). Appends o b.out.told (take printed.at.prefix.0 (line_of_cause one found))) ((λ i. (step.rest i).out.told) ∙ out) printed.at.prefix.2);
   }
   among_left one more a k b r spawner out (goes_on found l step (goes_on _ p printed gives)) = absurd (gives_not p b r gives)
 
@@ -262,7 +262,7 @@ module _ (settings : Settings) (number : ℕ) (events : List Event) (s : Folder)
   -- one test more before the others
   then_left : (one : Suspect) (more : List Suspect) (a m b : Work) → SearchedOne one a m → LeftEach more m b → LeftEach (one ∷ more) a b
   then_left one more a m b did rest =
-      let line : List ℕ = line_of one did.found in
+      let line : List ℕ = line_of_cause one did.found in
       record {
         done = one ∷ rest.done;
         more = rest.more;

@@ -49,8 +49,8 @@ other_or_format files (bytes, there, first, second) (inr format) =
     let same : Some bytes ≡ Some based_format_bytes = sym there ∙ format in
     second cc
 
-abbrev TakesRun : Folder → Type 0
-TakesRun s = (number : ℕ) × (number < most_runs) × HasRuns number s
+abbrev HasRoomForRun : Folder → Type 0
+HasRoomForRun s = (number : ℕ) × (number < most_runs) × HasRuns number s
 
 abbrev HasSomeRun : Folder → Type 0
 HasSomeRun s = (number : ℕ) × (0 < number) × HasRuns number s
@@ -71,7 +71,7 @@ module _ (s : Folder) (repository : IsRepository s.disk.published) where
 one_number : (s : Folder) (some others : ℕ) → HasRuns some s → HasRuns others s → some ≡ others
 one_number s some others a b = omega (arith, a.count, b.count, one_count s.disk.published a.kinds b.kinds a.kinds_are b.kinds_are)
 
-full : (s : Folder) → TakesRun s → HasRuns most_runs s → ⊥
+full : (s : Folder) → HasRoomForRun s → HasRuns most_runs s → ⊥
 full s takes runs = omega (arith, takes.1, one_number s takes.0 most_runs takes.2 runs)
 
 no_runs : (s : Folder) → HasSomeRun s → HasRuns 0 s → ⊥
@@ -85,8 +85,8 @@ some_weaker : (P Q : Folder → Type 0) (folder : Option Folder) → ((s : Folde
 some_weaker P Q None weaker holds = absurd holds
 some_weaker P Q (Some s) weaker holds = weaker s holds
 
-pub takes_in_repository : (folder : Option Folder) → IsSomeAnd folder TakesRun → IsSomeAnd folder (λ s. IsRepository s.disk.published)
-takes_in_repository folder takes = some_weaker TakesRun (λ s. IsRepository s.disk.published) folder (λ s t. t.2.repository) takes
+pub takes_in_repository : (folder : Option Folder) → IsSomeAnd folder HasRoomForRun → IsSomeAnd folder (λ s. IsRepository s.disk.published)
+takes_in_repository folder takes = some_weaker HasRoomForRun (λ s. IsRepository s.disk.published) folder (λ s t. t.2.repository) takes
 
 module _ (folder : Option Folder) (repository : IsSomeAnd folder (λ s. IsRepository s.disk.published)) where
   pub not_no_store : IfSome folder (λ s. s.disk.published format_name ≡ None) → ⊥
@@ -101,8 +101,8 @@ module _ (folder : Option Folder) (repository : IsSomeAnd folder (λ s. IsReposi
   pub not_gap : (number : ℕ) → IfSome folder (λ s. HasFormat s.disk.published × IsGap s.disk.published number) → ⊥
   not_gap number = refutes (λ s. IsRepository s.disk.published) (λ s. HasFormat s.disk.published × IsGap s.disk.published number) folder repository (λ s r. gap s r number)
 
-pub not_full : (folder : Option Folder) → IsSomeAnd folder TakesRun → IfSome folder (HasRuns most_runs) → ⊥
-not_full folder takes = refutes TakesRun (HasRuns most_runs) folder takes full
+pub not_full : (folder : Option Folder) → IsSomeAnd folder HasRoomForRun → IfSome folder (HasRuns most_runs) → ⊥
+not_full folder takes = refutes HasRoomForRun (HasRuns most_runs) folder takes full
 
 pub not_empty : (folder : Option Folder) → IsSomeAnd folder HasSomeRun → IfSome folder (HasRuns 0) → ⊥
 not_empty folder some = refutes HasSomeRun (HasRuns 0) folder some no_runs

@@ -15,7 +15,7 @@ use Rattle.run_shelf.specs.Images.{HasFormatBeside, PassesFormat, PassesOld, Mak
 use Rattle.run_shelf.specs.Outcomes.{InitFails}
 use Rattle.run_shelf.specs.Repository.{format_name, format_bytes}
 use Rattle.command_steps.specs.Outside.{Outside, Work, work_of, SomeRose, of_folder, of_site, of_spawner, of_input, of_out}
-use Rattle.command_steps.specs.Refusals.{code_of}
+use Rattle.command_steps.specs.Refusals.{exit_status}
 use Rattle.command_steps.specs.Runs.{KeepsFiles}
 use Rattle.command_steps.specs.Steps.{stops, goes_on as chain_on}
 use Rattle.command_steps.specs.Store.{Makes, MakesWhereNone}
@@ -27,7 +27,7 @@ use Rattle.command_steps.proofs.Resting.{goes_before, goes_both, passes_leaves}
 use Rattle.command_steps.proofs.SoundLemmas.{sound_then}
 use Rattle.testr_words.specs.Suites.{RunOptions, is_partial, LoadOptions}
 use Rattle.testr_words.specs.Tasks.{Task, init, load, run, forces_for}
-use Rattle.testr_commands.specs.Forced.{ready_with, ready_files, ReadsReady, LeavesFormat, IsReady, LeftReady, PassesForced, GoesOn, GoesForced, goes_on, not_made, not_read, CanForce, PromisesForced, PromisesBy}
+use Rattle.testr_commands.specs.Forced.{ready_with, ready_files, ReadsReady, LeavesFormat, IsMadeReady, LeftReady, PassesForced, GoesOnReady, GoesForced, goes_on, not_made, not_read, CanForce, PromisesForced, PromisesBy}
 use Rattle.testr_commands.specs.Program.{SomeFailed, IsPerformed, GivesUp, Tells, Answers, Promises}
 use Rattle.testr_commands.specs.Stops.{PassesLoad, HasLoadedRun}
 use Rattle.testr_commands.specs.SuiteStops.{PassesSuiteRun, HasSuiteRun}
@@ -47,7 +47,7 @@ made_with : (found : Option (List ℕ)) (files : Files) → found ≡ None → r
 made_with None files absent = refl
 made_with (Some bytes) files absent = cc
 
-module _ (before ready : Outside) (is : IsReady before ready) where
+module _ (before ready : Outside) (is : IsMadeReady before ready) where
   abbrev a : Option Folder
   a = before.folder.told
 
@@ -95,7 +95,7 @@ module _ (Extra : Files → Files → Type 0) where
       (passes_weaker (LeftReady s) (LeftMore s) (λ image left. inl left) s m first)
       (passes_weaker (λ image. IsImage m.disk image ⊎ Extra m.disk.published image) (LeftMore s) (left_more s m reads first) m t second)
 
-module _ (before ready after : Outside) (answer : ℕ) (is : IsReady before ready) where
+module _ (before ready after : Outside) (answer : ℕ) (is : IsMadeReady before ready) where
   abbrev x : Option Folder
   x = before.folder.told
 
@@ -120,7 +120,7 @@ module _ (before ready after : Outside) (answer : ℕ) (is : IsReady before read
         goes_then x y z (λ s t. ReadsReady s t × Passes (LeftReady s) s t) (PassesLoad options.partial names before.site.told before.input.told) (PassesForced (load options names) (work_of before) (work_of ready) (work_of after)) (both_ready before ready is) told
         (λ s m t first second. extends (HasLoadedRun options.partial names before.site.told before.input.told) s m t first.0 first.1 second)
 
-    load_goes : Promises false (Some (load options names)) ready after answer → GoesOn (load options names) before after answer
+    load_goes : Promises false (Some (load options names)) ready after answer → GoesOnReady (load options names) before after answer
     load_goes rest = record {
       ready = ready;
       is_ready = is;
@@ -138,7 +138,7 @@ module _ (before ready after : Outside) (answer : ℕ) (is : IsReady before read
     run_extends s m t first (inl old) = inl (extends_old s m t first.1 old)
     run_extends s m t first (inr given) = inr (given.0, extends (HasSuiteRun (is_partial options) given.0.events) s m t first.0 first.1 given.1)
 
-    run_goes : Promises false (Some (run options)) ready after answer → GoesOn (run options) before after answer
+    run_goes : Promises false (Some (run options)) ready after answer → GoesOnReady (run options) before after answer
     run_goes rest = record {
       ready = ready;
       is_ready = is;
@@ -173,7 +173,7 @@ module _ {reading : Bool} (task : Task) (before after : Outside) (answer : ℕ) 
     | inl rose ↦ absurd (none rose)
     | inr child ↦ absurd child.0
   ]
-  completes (not_read reads outcome gives told) can none = inr (told.code ∙ ap code_of gives.memory)
+  completes (not_read reads outcome gives told) can none = inr (told.code ∙ ap exit_status gives.memory)
 
 module _ {reading : Bool} (before after : Outside) (answer : ℕ) where
   pub load_forced : (options : LoadOptions) (names : List (List ℕ)) → GoesForced reading (load options names) before after answer → PromisesForced reading (load options names) before after answer
@@ -209,12 +209,12 @@ module _ (before : Outside) (m : Seen Folder) where
     any_moment = goes_both before.folder.told m.told (InitFails init_fault.Exists) PassesFormat PassesOld makes.refused makes.any_moment old_of;
   }
 
-  is_ready : MakesWhereNone before.folder m (Ok tt) → IsReady before behind
+  is_ready : MakesWhereNone before.folder m (Ok tt) → IsMadeReady before behind
   is_ready (inl makes) = record { how = inr (init_made makes); count = makes.count.stands refl; rest = refl }
   is_ready (inr makes) = record { how = inl (format_left makes); count = makes.count.stands refl; rest = refl }
 
-pub made_ready : (before ready : Outside) → MakesWhereNone before.folder ready.folder (Ok tt) → ready ≡ record before { folder = ready.folder } → IsReady before ready
-made_ready before ready makes rest = subst (IsReady before) (sym rest) (is_ready before ready.folder makes)
+pub made_ready : (before ready : Outside) → MakesWhereNone before.folder ready.folder (Ok tt) → ready ≡ record before { folder = ready.folder } → IsMadeReady before ready
+made_ready before ready makes rest = subst (IsMadeReady before) (sym rest) (is_ready before ready.folder makes)
 
 -- where a call failed
 module _ (before after : Outside) (answer : ℕ) (fault : InitFault) (tells : Tells (Err (Init fault)) before.errors after.errors answer) (rest : work_of after ≡ record (work_of before) { folder = after.folder }) where
@@ -239,7 +239,7 @@ pub not_forced : (force : Bool) (asked : Option Task) (before after : Outside) (
 not_forced force asked before after answer is given = subst (λ (f : Bool). PromisesBy f false asked before after answer) (sym is) given
 
 -- the folder was made ready
-pub forced_on : (force : Bool) (asked : Option Task) (before ready after : Outside) (answer : ℕ) → forces_for force asked ≡ true → Promises false asked ready after answer → IsReady before ready → PromisesBy (forces_for force asked) false asked before after answer
+pub forced_on : (force : Bool) (asked : Option Task) (before ready after : Outside) (answer : ℕ) → forces_for force asked ≡ true → Promises false asked ready after answer → IsMadeReady before ready → PromisesBy (forces_for force asked) false asked before after answer
 forced_on force (Some (load options names)) before ready after answer is rest how =
     subst (λ (f : Bool). PromisesBy f false (Some (load options names)) before after answer) (sym is) (load_forced before after answer options names (goes_on (load_goes before ready after answer how options names rest)))
 forced_on force (Some (run options)) before ready after answer is rest how =

@@ -10,18 +10,18 @@ use Rattle.suite_plan.specs.PatternList.{IsPatternList, HasPatternsCause, ReadsP
 use Rattle.suite_plan.specs.declared.load_list.ListRefusal.TheVariants as load_list
 use Rattle.suite_plan.specs.declared.pattern_list.PatternListRefusal.{PatternListRefusal}
 use Rattle.suite_plan.specs.declared.pattern_list.PatternListRefusal.TheVariants as pattern_list
-use Rattle.command_steps.specs.declared.selecting.Further.{Further}
+use Rattle.command_steps.specs.declared.test_selection.Further.{Further}
 use Rattle.testr_conf.specs.ListedIds.{patterns_in}
 use Rattle.testr_conf.specs.declared.ids.IdsFault.{IdsFault}
 use Rattle.testr_conf.specs.declared.ids.IdsFault.TheVariants.{NotText}
 use Rattle.command_steps.specs.Outside.{in_site}
 use Rattle.command_steps.specs.Perhaps.{Perhaps, not_asked, did, refused}
-use Rattle.command_steps.specs.Refusals.{refusal_code, place_of}
-use Rattle.command_steps.specs.Selecting.{Times, further_refusal, ReadsFurther}
+use Rattle.command_steps.specs.Refusals.{refusal_exit_status, fault_place_of}
+use Rattle.command_steps.specs.Selecting.{TimesById, further_refusal, ReadsFurther}
 use Rattle.command_steps.specs.Steps.{stops, goes_on}
 use Rattle.command_steps.specs.TimesFile.{IsTimesFile, HasTimesCause, ReadsTimes, times_failed}
-use Rattle.command_steps.specs.declared.selecting.FurtherRefusal.{FurtherRefusal}
-use Rattle.command_steps.specs.declared.selecting.FurtherRefusal.TheVariants as further
+use Rattle.command_steps.specs.declared.test_selection.FurtherRefusal.{FurtherRefusal}
+use Rattle.command_steps.specs.declared.test_selection.FurtherRefusal.TheVariants as further
 use Rattle.command_steps.specs.declared.times_file.TheConstants.{MOST_TIMES}
 use Rattle.command_steps.specs.declared.times_file.TimesRefusal.{TimesRefusal}
 use Rattle.command_steps.specs.declared.times_file.TimesRefusal.TheVariants as times_file
@@ -29,7 +29,7 @@ use Rattle.testr_words.specs.Suites.{Wanted}
 use Rattle.testr_commands.specs.Answer.{IsChildFault}
 use Rattle.testr_commands.specs.Further.{GivesPatterns, GivesTimes, GivesFurther, HasPatterns, HasTimes, CanReadFurther}
 use Rattle.testr_commands.proofs.PatternLemmas.{good_not_bad}
-use Rattle.testr_commands.proofs.RefusalLemmas.{IsNamed, list_place, times_place}
+use Rattle.testr_commands.proofs.RefusalLemmas.{IsNoUsage, list_place, times_place}
 use Rattle.testr_commands.proofs.SuiteCauses.{NoCause, from_told, not_too_much, same_text}
 
 -- ---- what stays
@@ -39,7 +39,7 @@ one_told name a b r (not_asked none is same) = λ i. (same i).told
 one_told name a b r (did n value asked is step) = step.same
 one_told name a b r (refused n fault asked is step) = step.same
 
-times_told : (name : Option (List ℕ)) (a b : Seen Files) (r : Result (Option Times) TimesRefusal) → Perhaps name ReadsTimes a b r → b.told ≡ a.told
+times_told : (name : Option (List ℕ)) (a b : Seen Files) (r : Result (Option TimesById) TimesRefusal) → Perhaps name ReadsTimes a b r → b.told ≡ a.told
 times_told name a b r (not_asked none is same) = λ i. (same i).told
 times_told name a b r (did n value asked is step) = step.same
 times_told name a b r (refused n fault asked is step) = step.same
@@ -55,7 +55,7 @@ one_stands name a b v (not_asked none is same) = λ i. (same i).faults
 one_stands name a b v (did n value asked is step) = step.count.stands refl
 one_stands name a b v (refused n fault asked is step) = cc
 
-times_stand : (name : Option (List ℕ)) (a b : Seen Files) (v : Option Times) → Perhaps name ReadsTimes a b (Ok v) → b.faults ≡ a.faults
+times_stand : (name : Option (List ℕ)) (a b : Seen Files) (v : Option TimesById) → Perhaps name ReadsTimes a b (Ok v) → b.faults ≡ a.faults
 times_stand name a b v (not_asked none is same) = λ i. (same i).faults
 times_stand name a b v (did n value asked is step) = step.count.stands refl
 times_stand name a b v (refused n fault asked is step) = cc
@@ -72,7 +72,7 @@ further_stands wanted a b v (goes_on including m first (goes_on excluding n seco
 -- whether a read failed
 abbrev pub failed_of : FurtherRefusal → Bool
 failed_of (further.Patterns fault) = patterns_failed {T = Ids} (Err fault)
-failed_of (further.Times fault) = times_failed {T = Times} (Err fault)
+failed_of (further.Times fault) = times_failed {T = TimesById} (Err fault)
 
 one_rises : (name : Option (List ℕ)) (a b : Seen Files) (fault : PatternListRefusal) → Perhaps name ReadsPatternList a b (Err fault) → RisesExactlyIf a.faults b.faults (failed_of (further.Patterns fault))
 one_rises name a b fault (not_asked none is same) = cc
@@ -111,7 +111,7 @@ further_rises wanted a b fault (goes_on including m first (goes_on excluding n s
     let both : ◌≡◌ {A = Result Further FurtherRefusal} (Err fault) (Ok _) = gives.answer in
     cc
 
-pub further_named : (fault : FurtherRefusal) → IsNamed (further_refusal fault)
+pub further_named : (fault : FurtherRefusal) → IsNoUsage (further_refusal fault)
 further_named (further.Patterns (pattern_list.List refusal)) = tt
 further_named (further.Patterns (pattern_list.Bad line)) = tt
 further_named (further.Times refusal) = tt
@@ -121,10 +121,10 @@ further_child (further.Patterns (pattern_list.List refusal)) child = child
 further_child (further.Patterns (pattern_list.Bad line)) child = child
 further_child (further.Times refusal) child = child
 
-pub further_place : (fault : FurtherRefusal) → place_of (further_refusal fault) ≡ cond (failed_of fault) (Some in_site) None
+pub further_place : (fault : FurtherRefusal) → fault_place_of (further_refusal fault) ≡ cond (failed_of fault) (Some in_site) None
 further_place (further.Patterns (pattern_list.List refusal)) = list_place Ids refusal
 further_place (further.Patterns (pattern_list.Bad line)) = refl
-further_place (further.Times refusal) = times_place Times refusal
+further_place (further.Times refusal) = times_place TimesById refusal
 
 -- ---- why it refuses
 
@@ -134,7 +134,7 @@ not_too_many (Some given) bytes there short long =
     let same : given ≡ bytes = cc in
     omega (arith, ap length same, short, long)
 
-patterns_cause : (name : List ℕ) (patterns : Ids) (fault : PatternListRefusal) (files : Files) → IsPatternList name patterns files → HasPatternsCause name fault files → refusal_code (further_refusal (further.Patterns fault)) ≡ 3 → ⊥
+patterns_cause : (name : List ℕ) (patterns : Ids) (fault : PatternListRefusal) (files : Files) → IsPatternList name patterns files → HasPatternsCause name fault files → refusal_exit_status (further_refusal (further.Patterns fault)) ≡ 3 → ⊥
 patterns_cause name patterns (pattern_list.List load_list.Site) files listed cause three = omega arith
 patterns_cause name patterns (pattern_list.List (load_list.TooLong given)) files listed cause three = not_too_much (files name) listed.text listed.has.there listed.has.short cause
 patterns_cause name patterns (pattern_list.List (load_list.Absent given)) files listed cause three =
@@ -152,7 +152,7 @@ patterns_cause name patterns (pattern_list.Bad line) files listed cause three =
     let good : All IsPattern cause.patterns = subst (λ (p : Ids). All IsPattern p) are listed.good in
     good_not_bad _ (good cause.index [] cause.first.in_range) cause.first.bad
 
-one_never : (name : Option (List ℕ)) (a b : Seen Files) (fault : PatternListRefusal) → IfSome name (λ n. IsSomeAnd a.told (HasPatterns n)) → Perhaps name ReadsPatternList a b (Err fault) → refusal_code (further_refusal (further.Patterns fault)) ≡ 3 → ⊥
+one_never : (name : Option (List ℕ)) (a b : Seen Files) (fault : PatternListRefusal) → IfSome name (λ n. IsSomeAnd a.told (HasPatterns n)) → Perhaps name ReadsPatternList a b (Err fault) → refusal_exit_status (further_refusal (further.Patterns fault)) ≡ 3 → ⊥
 one_never None a b fault there (not_asked none is same) three = cc
 one_never None a b fault there (did n value asked is step) three = cc
 one_never None a b fault there (refused n why asked is step) three = cc
@@ -162,9 +162,9 @@ one_never (Some name) a b fault there (refused n why asked is step) three =
     let same : why ≡ fault = cc in
     let named : name ≡ n = cc in
     from_told a.told (HasPatterns n) (HasPatternsCause n why) (subst (λ (x : List ℕ). IsSomeAnd a.told (HasPatterns x)) named there) step.refused
-    (λ files listed cause. patterns_cause n listed.0 why files listed.1 cause (ap (λ f. refusal_code (further_refusal (further.Patterns f))) same ∙ three))
+    (λ files listed cause. patterns_cause n listed.0 why files listed.1 cause (ap (λ f. refusal_exit_status (further_refusal (further.Patterns f))) same ∙ three))
 
-times_cause : (name : List ℕ) (times : Times) (fault : TimesRefusal) (files : Files) → IsTimesFile name times files → HasTimesCause name fault files → refusal_code (further_refusal (further.Times fault)) ≡ 3 → ⊥
+times_cause : (name : List ℕ) (times : TimesById) (fault : TimesRefusal) (files : Files) → IsTimesFile name times files → HasTimesCause name fault files → refusal_exit_status (further_refusal (further.Times fault)) ≡ 3 → ⊥
 times_cause name times times_file.Site files is_file cause three = omega arith
 times_cause name times (times_file.TooLong given) files is_file cause three = not_too_many (files name) is_file.bytes is_file.has.there is_file.has.short cause
 times_cause name times (times_file.Absent given) files is_file cause three =
@@ -175,7 +175,7 @@ times_cause name times (times_file.NotTimes given) files is_file cause three =
     cause.other is_file.covers times (subst (λ (bytes : List ℕ). IsTimesCache bytes is_file.covers times) same is_file.form)
 times_cause name times times_file.NoMemory files is_file cause three = omega arith
 
-times_never : (name : Option (List ℕ)) (a b : Seen Files) (fault : TimesRefusal) → IfSome name (λ n. IsSomeAnd a.told (HasTimes n)) → Perhaps name ReadsTimes a b (Err fault) → refusal_code (further_refusal (further.Times fault)) ≡ 3 → ⊥
+times_never : (name : Option (List ℕ)) (a b : Seen Files) (fault : TimesRefusal) → IfSome name (λ n. IsSomeAnd a.told (HasTimes n)) → Perhaps name ReadsTimes a b (Err fault) → refusal_exit_status (further_refusal (further.Times fault)) ≡ 3 → ⊥
 times_never None a b fault there (not_asked none is same) three = cc
 times_never None a b fault there (did n value asked is step) three = cc
 times_never None a b fault there (refused n why asked is step) three = cc
@@ -185,10 +185,10 @@ times_never (Some name) a b fault there (refused n why asked is step) three =
     let same : why ≡ fault = cc in
     let named : name ≡ n = cc in
     from_told a.told (HasTimes n) (HasTimesCause n why) (subst (λ (x : List ℕ). IsSomeAnd a.told (HasTimes x)) named there) step.refused
-    (λ files listed cause. times_cause n listed.0 why files listed.1 cause (ap (λ f. refusal_code (further_refusal (further.Times f))) same ∙ three))
+    (λ files listed cause. times_cause n listed.0 why files listed.1 cause (ap (λ f. refusal_exit_status (further_refusal (further.Times f))) same ∙ three))
 
-code_as : (one other : FurtherRefusal) → other ≡ one → refusal_code (further_refusal one) ≡ 3 → refusal_code (further_refusal other) ≡ 3
-code_as one other same three = ap (λ f. refusal_code (further_refusal f)) same ∙ three
+code_as : (one other : FurtherRefusal) → other ≡ one → refusal_exit_status (further_refusal one) ≡ 3 → refusal_exit_status (further_refusal other) ≡ 3
+code_as one other same three = ap (λ f. refusal_exit_status (further_refusal f)) same ∙ three
 
 pub further_never : (wanted : Wanted) (a b : Seen Files) (fault : FurtherRefusal) → CanReadFurther wanted a.told → ReadsFurther wanted a b (Err fault) → NoCause (further_refusal fault)
 further_never wanted a b fault can (stops why is step) = (
@@ -228,7 +228,7 @@ one_gives (Some name) a b v (refused n fault asked is step) = cc
 same_value : {A E : Type 0} (x y : A) → ◌≡◌ {A = Result A E} (Ok x) (Ok y) → y ≡ x
 same_value x y is = cc
 
-times_give : (name : Option (List ℕ)) (a b : Seen Files) (v : Option Times) → Perhaps name ReadsTimes a b (Ok v) → GivesTimes name v a.told
+times_give : (name : Option (List ℕ)) (a b : Seen Files) (v : Option TimesById) → Perhaps name ReadsTimes a b (Ok v) → GivesTimes name v a.told
 times_give None a b v (not_asked none is same) = cc
 times_give None a b v (did n value asked is step) = cc
 times_give None a b v (refused n fault asked is step) = cc
@@ -236,7 +236,7 @@ times_give (Some name) a b v (not_asked none is same) = cc
 times_give (Some name) a b v (did n value asked is step) =
     let same : n ≡ name = cc in
     let some : Some value ≡ v = cc in
-    subst (λ (o : Option Times). IsSomeAnd o (λ times. IfSome a.told (IsTimesFile name times))) some
+    subst (λ (o : Option TimesById). IsSomeAnd o (λ times. IfSome a.told (IsTimesFile name times))) some
     (subst (λ (x : List ℕ). IfSome a.told (IsTimesFile x value)) same step.times)
 times_give (Some name) a b v (refused n fault asked is step) = cc
 

@@ -30,8 +30,8 @@ use Rattle.command_steps.specs.declared.answer.Verdict.{Verdict}
 use Rattle.command_steps.specs.declared.answer.Refusal.{Refusal}
 use Rattle.command_steps.specs.declared.answer.Refusal.TheVariants.{Keep, Refresh, Print}
 use Rattle.command_steps.specs.declared.store.KeepFault.{KeepFault}
-use Rattle.command_steps.specs.declared.told.TellFault.{TellFault}
-use Rattle.command_steps.proofs.Resting.{Rests}
+use Rattle.command_steps.specs.declared.question_answers.TellFault.{TellFault}
+use Rattle.command_steps.proofs.Resting.{KeepsReads}
 use Rattle.testr_commands.proofs.ChainLemmas.{Quiet, gives_not}
 use Rattle.testr_commands.proofs.StepLaws.{still_quiet, open_quiet, begin_quiet, record_quiet}
 use Rattle.testr_words.specs.Suites.{LoadOptions}
@@ -43,7 +43,7 @@ no_format files none (inr format) = cc
 pub files_keep : (s t : Folder) → KeepsFiles s t → KeepsRuns s t
 files_keep s t same runs shows = subst (λ (files : Files). Shows files runs) (sym same) shows
 
-pub keeps_runs : (s t : Folder) → Rests s t → KeepsRuns s t
+pub keeps_runs : (s t : Folder) → KeepsReads s t → KeepsRuns s t
 keeps_runs s t rests = files_keep s t rests.files
 
 -- ---- `init`
@@ -143,9 +143,9 @@ module _ (may : Refusal → Bool) where
   KeepsUnless step = (a b : Work) (r : Refusal) → step a b (Err r) → may r ≡ false → Goes a.folder.told b.folder.told KeepsFiles
 
   pub then_keeps : {A B E : Type 0} {name : E → Refusal} {first : Step Work A E} {second : A → Step Work B Refusal} → Quiet all first → ((v : A) → KeepsUnless (second v)) → KeepsUnless (Then name first second)
-  then_keeps quiet rest a b r (stops e is step) not = goes_weaker a.folder.told b.folder.told Rests KeepsFiles (quiet a b (Err e) step) (λ s t rests. rests.files)
+  then_keeps quiet rest a b r (stops e is step) not = goes_weaker a.folder.told b.folder.told KeepsReads KeepsFiles (quiet a b (Err e) step) (λ s t rests. rests.files)
   then_keeps quiet rest a b r (goes_on v m done next) not =
-      goes_then a.folder.told m.folder.told b.folder.told Rests KeepsFiles KeepsFiles (quiet a m (Ok v) done) (rest v m b r next not) (λ s m t rests files. files ∙ rests.files)
+      goes_then a.folder.told m.folder.told b.folder.told KeepsReads KeepsFiles KeepsFiles (quiet a m (Ok v) done) (rest v m b r next not) (λ s m t rests files. files ∙ rests.files)
 
   same_refusal : {A : Type 0} (named r : Refusal) → ◌≡◌ {A = Result A Refusal} (Err r) (Err named) → r ≡ named
   same_refusal named r is = cc

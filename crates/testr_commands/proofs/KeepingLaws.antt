@@ -20,7 +20,7 @@ use Rattle.command_steps.specs.Steps.{Step, Then, stops, goes_on, At}
 use Rattle.command_steps.specs.Store.{Keeps}
 use Rattle.command_steps.specs.declared.answer.Refusal.{Refusal}
 use Rattle.command_steps.specs.declared.answer.Refusal.TheVariants.{Keep, Refresh}
-use Rattle.command_steps.proofs.Resting.{Rests, rests_images}
+use Rattle.command_steps.proofs.Resting.{KeepsReads, rests_images}
 use Rattle.command_steps.proofs.SoundLemmas.{IsCalm, PassesAll, goes_named, goes_refreshed, rests_repository, rests_sound, sound_then}
 
 module _ {A : Type 0} (partial : Bool) (number : ℕ) (bytes : List ℕ) (rows : List Row) (rest : Step Work A Refusal) (leaves : (a b : Work) (result : Result A Refusal) → rest a b result → b.folder ≡ a.folder) where
@@ -54,25 +54,25 @@ module _ (Extra : Files → Files → Type 0) where
   LeftBy s image = IsImage s.disk image ⊎ Extra s.disk.published image
 
   -- what a stop at each moment leaves, that it is sound where it was, and that a repository stays one
-  pub record Moves (s t : Folder) : Type 0 where
+  pub record MovesSoundly (s t : Folder) : Type 0 where
     pub stops : Passes (LeftBy s) s t
     pub sound : KeepsSound s t
     pub repository : KeepsRepository s t
 
-  pub quiet_moves : (a b : Option Folder) → Goes a b Rests → Goes a b Moves
-  quiet_moves a b quiet = goes_weaker a b Rests Moves quiet (λ s t rests. record {
+  pub quiet_moves : (a b : Option Folder) → Goes a b KeepsReads → Goes a b MovesSoundly
+  quiet_moves a b quiet = goes_weaker a b KeepsReads MovesSoundly quiet (λ s t rests. record {
     stops = passes_weaker (IsImage s.disk) (LeftBy s) (λ image left. inl left) s t rests.old;
     sound = rests_sound s t rests;
     repository = rests_repository s t rests;
   })
 
   module _ (number : ℕ) (run : Run) (told : (files image : Files) → HasRunAndCaches files number run image → Extra files image) where
-    left_by : (s m : Folder) → Rests s m → (image : Files) → IsImage m.disk image ⊎ HasRunAndCaches m.disk.published number run image → LeftBy s image
+    left_by : (s m : Folder) → KeepsReads s m → (image : Files) → IsImage m.disk image ⊎ HasRunAndCaches m.disk.published number run image → LeftBy s image
     left_by s m rests image (inl before) = inl (rests_images s m rests image before)
     left_by s m rests image (inr beside) = inr (told s.disk.published image (subst (λ (files : Files). HasRunAndCaches files number run image) rests.files beside))
 
-    pub run_moves : (a m b : Option Folder) → Goes a m Rests → Goes m b (PassesAll number run) → Goes a b Moves
-    run_moves a m b quiet runs = goes_then a m b Rests (PassesAll number run) Moves quiet runs (λ s m t rests passes. record {
+    pub run_moves : (a m b : Option Folder) → Goes a m KeepsReads → Goes m b (PassesAll number run) → Goes a b MovesSoundly
+    run_moves a m b quiet runs = goes_then a m b KeepsReads (PassesAll number run) MovesSoundly quiet runs (λ s m t rests passes. record {
       stops =
           passes_then (LeftBy s) s m t
           (passes_weaker (IsImage s.disk) (LeftBy s) (λ image left. inl left) s m rests.old)

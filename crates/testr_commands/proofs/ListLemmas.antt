@@ -7,7 +7,7 @@ use Rattle.suite_plan.specs.Choosing.{Ids, with_further, chosen_of}
 use Rattle.suite_plan.specs.Patterns.{Compiles}
 use Rattle.suite_plan.specs.Sharing.{ids_of_shard}
 use Rattle.suite_plan.specs.declared.patterns.Compiled.{Compiled}
-use Rattle.command_steps.specs.declared.selecting.Further.{Further}
+use Rattle.command_steps.specs.declared.test_selection.Further.{Further}
 use Rattle.suite_plan.specs.declared.picks.Picks.{Picks}
 use Rattle.testr_words.specs.Suites.{Wanted}
 use Rattle.command_steps.specs.Selecting.{shard_times}

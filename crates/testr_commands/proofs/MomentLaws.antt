@@ -31,9 +31,9 @@ use Rattle.command_steps.specs.declared.answer.Verdict.{Verdict}
 use Rattle.command_steps.specs.declared.answer.Refusal.{Refusal}
 use Rattle.command_steps.specs.declared.answer.Refusal.TheVariants.{Memory, Keep, Refresh, Print}
 use Rattle.testr_commands.proofs.SourcesLemmas.{IsRunOf, writes_run}
-use Rattle.command_steps.proofs.Resting.{Rests, rests_then}
+use Rattle.command_steps.proofs.Resting.{KeepsReads, rests_then}
 use Rattle.command_steps.proofs.SoundLemmas.{IsCalm, PassesAll, surveyed_calm, goes_rested}
-use Rattle.testr_commands.proofs.KeepingLaws.{keeps_moves, Moves, quiet_moves, run_moves}
+use Rattle.testr_commands.proofs.KeepingLaws.{keeps_moves, MovesSoundly, quiet_moves, run_moves}
 use Rattle.testr_commands.proofs.ChainLemmas.{IsQuiet}
 use Rattle.testr_commands.proofs.StepLaws.{still_quiet, open_quiet, begin_quiet, record_quiet}
 use Rattle.testr_words.specs.Suites.{LoadOptions}
@@ -48,9 +48,9 @@ module _ (partial : Bool) (number : ℕ) (run : List ℕ) where
   printed_or_not text verdict a b result (goes_on _ m step gives) = (λ i. (gives.same i).folder) ∙ (λ i. (step.rest i).folder)
 
   -- behind a run that was begun at s and written up to a
-  module _ (s : Option Folder) (a b : Work) (calm : IfSome s IsCalm) (written : Goes s a.folder.told (Writes run)) (quiet : Goes s a.folder.told Rests) where
+  module _ (s : Option Folder) (a b : Work) (calm : IfSome s IsCalm) (written : Goes s a.folder.told (Writes run)) (quiet : Goes s a.folder.told KeepsReads) where
     reported_or_not : (format : FormatKind) (rows : List Row) (result : Result Verdict Refusal) → AreRowsOf run rows → Then Memory (Still (Reports format number [] rows)) (λ (report : Report). Then Keep (At work_folder (Keeps partial number)) (λ _. Then Refresh (At work_folder (Refreshes number rows)) (λ _. Then Print (At work_out (Prints report.text)) (λ _. Gives report.verdict)))) a b result → Goes s b.folder.told Runs
-    reported_or_not format rows result are (stops fault is step) = goes_rested number (run_of partial run) s b.folder.told calm (subst (λ (w : Work). Goes s w.folder.told Rests) (sym step.same) quiet)
+    reported_or_not format rows result are (stops fault is step) = goes_rested number (run_of partial run) s b.folder.told calm (subst (λ (w : Work). Goes s w.folder.told KeepsReads) (sym step.same) quiet)
     reported_or_not format rows result are (goes_on report m step next) =
         keeps_moves partial number run rows (Then Print (At work_out (Prints report.text)) (λ _. Gives report.verdict)) (printed_or_not report.text report.verdict) s are calm m b result
         (subst (λ (w : Work). Goes s w.folder.told (Writes run)) (sym step.same) written) next
@@ -72,7 +72,7 @@ taken a m m2 found opened took = rests_then a.folder.told m.folder.told m2.folde
 
 module _ (options : LoadOptions) (names : List (List ℕ)) where
   abbrev pub MovesFrom : Work → Work → Type 0
-  MovesFrom a b = Goes a.folder.told b.folder.told (Moves (HasLoadedRun options.partial names a.site.told a.input.told))
+  MovesFrom a b = Goes a.folder.told b.folder.told (MovesSoundly (HasLoadedRun options.partial names a.site.told a.input.told))
 
   quiet_from : (a b : Work) → IsQuiet a b → MovesFrom a b
   quiet_from a b quiet = quiet_moves (HasLoadedRun options.partial names a.site.told a.input.told) a.folder.told b.folder.told quiet

@@ -10,7 +10,7 @@ use Rattle.testr_words.specs.Tasks.{Task, load, selftest, task_with, quiet_of}
 use Rattle.testr_words.specs.declared.command.Command.{Command}
 use Rattle.testr_words.specs.declared.command.Verb.{Verb}
 use Rattle.testr_words.specs.declared.command.Verb.TheVariants.{Load, Run, ListTests, SelfTest}
-use Rattle.testr_words.specs.declared.drawing.Drawing.{Drawing}
+use Rattle.testr_words.specs.declared.selftest_words.SelfTestWords.{SelfTestWords}
 use Rattle.command_steps.specs.declared.usage.UsageFault.TheVariants.{Words}
 use Rattle.command_steps.specs.declared.answer.Verdict.{Verdict}
 use Rattle.command_steps.specs.declared.answer.Refusal.{Refusal}
@@ -43,7 +43,7 @@ quiet_load folder c = by (nat_le (length c.names) 64)
 abbrev pub IsLoud : Verb → Type 0
 IsLoud v = (v ≡ Run) ⊎ ((v ≡ ListTests) ⊎ (v ≡ SelfTest))
 
-drawn_none : (drawn : Option Drawing) → quiet_of (option_map selftest drawn) ≡ None
+drawn_none : (drawn : Option SelfTestWords) → quiet_of (option_map selftest drawn) ≡ None
 drawn_none None = refl
 drawn_none (Some drawing) = refl
 

@@ -11,11 +11,11 @@ use Rattle.run_shelf.specs.Holds.{kinds_of, FitsFolder}
 use Rattle.run_shelf.specs.Repository.{Run, run_at}
 use Rattle.run_shelf.specs.declared.found.Found.{Found}
 use Rattle.run_shelf.proofs.Joining.{stays_some}
-use Rattle.sub_text.specs.Texts.{summary_of}
+use Rattle.sub_text.specs.Texts.{summary_text}
 use Rattle.suite_plan.specs.Listing.{ListsSo}
 use Rattle.testr_words.specs.Suites.{ListOptions, LoadOptions}
 use Rattle.testr_commands.specs.Ask.{CopiesLast, PrintsAnswer, AnswersOf, Asks}
-use Rattle.command_steps.specs.Copying.{BeginsAt, Copies}
+use Rattle.command_steps.specs.Copying.{BeginsAt, CopiesRun}
 use Rattle.testr_commands.specs.Load.{Loads}
 use Rattle.command_steps.specs.Outside.{Work, Shown, work_out, shown_out}
 use Rattle.testr_commands.specs.Printed.{PrintsOfLoad, PrintsOfAnswer, PrintsOfListing}
@@ -27,14 +27,14 @@ use Rattle.testr_commands.specs.SelfTest.{TestsItself, rows_in_turn}
 use Rattle.command_steps.specs.Steps.{Step, Then, stops, goes_on, Still, Gives, At}
 use Rattle.command_steps.specs.Store.{HasRunFor}
 use Rattle.command_steps.specs.declared.store.RunsFault.{RunsFault}
-use Rattle.command_steps.specs.declared.copying.CopyFault.{CopyFault}
+use Rattle.command_steps.specs.declared.run_copy.CopyFault.{CopyFault}
 use Rattle.command_steps.specs.declared.answer.Refusal.{Refusal}
 use Rattle.command_steps.specs.declared.answer.Refusal.TheVariants.{Print}
 use Rattle.command_steps.specs.declared.answer.Verdict.{Verdict}
 use Rattle.command_steps.specs.declared.answer.Verdict.TheVariants.{Passed}
 use Rattle.testr_words.specs.declared.command.Question.{Question}
 use Rattle.testr_words.specs.declared.command.Question.TheVariants.{Last}
-use Rattle.testr_words.specs.declared.drawing.Drawing.{Drawing}
+use Rattle.testr_words.specs.declared.selftest_words.SelfTestWords.{SelfTestWords}
 use Rattle.testr_commands.proofs.AskLemmas.{either}
 use Rattle.testr_commands.proofs.CommandLaws.{of_shown}
 use Rattle.command_steps.proofs.CopyLemmas.{bytes_said}
@@ -128,7 +128,7 @@ record PrintsShown (question : Question) (before after : Shown) : Type 0 where
   printed : AppendsPrefix before.out.told after.out.told text
 
 module _ (found : Found) where
-  copied_part : (m n : Shown) (result : Result (Unit {0}) CopyFault) → 0 < length (kinds_of found) → IfSome m.folder.told (FitsFolder (kinds_of found)) → Copies (length (kinds_of found) - 1) m n result → PrintsShown (Last true) m n
+  copied_part : (m n : Shown) (result : Result (Unit {0}) CopyFault) → 0 < length (kinds_of found) → IfSome m.folder.told (FitsFolder (kinds_of found)) → CopiesRun (length (kinds_of found) - 1) m n result → PrintsShown (Last true) m n
   copied_part m n result some fits copies =
       let front = front_said (kinds_of found) copies.bytes m.folder.told some fits copies.front in
       record {
@@ -225,7 +225,7 @@ list_prints options a b result lists =
 
 -- ---- `selftest`
 
-pub selftest_prints : (drawing : Drawing) (a b : Work) (result : Result Verdict Refusal) → TestsItself drawing a b result → (b.out.told ≡ a.out.told) ⊎ AppendsPrefix a.out.told b.out.told (summary_of (rows_in_turn drawing) 0 [])
+pub selftest_prints : (drawing : SelfTestWords) (a b : Work) (result : Result Verdict Refusal) → TestsItself drawing a b result → (b.out.told ≡ a.out.told) ⊎ AppendsPrefix a.out.told b.out.told (summary_text (rows_in_turn drawing) 0 [])
 selftest_prints drawing a b result tests =
     then_printed out_of a b result (λ r m s i. (s.same i).out.told) (λ told m still printed.
     inr (part_as a.out.told m.out.told b.out.told told.text.items _ (λ i. (still.same i).out.told) still.says.told.text (printed_part told.text.items told.verdict m b result printed)))

@@ -17,9 +17,9 @@ use Rattle.outcome_fold.specs.declared.row.Row.{Row}
 use Rattle.packet_codec.specs.declared.event.Event.{Event}
 use Rattle.suite_causes.specs.Analysis.{asked_for, UsesNoBroken}
 use Rattle.suite_causes.specs.Probing.{fails_in}
-use Rattle.suite_causes.specs.Searching.{Ids, HasAsked, HasProbeCause, SearchesSo, StopsSearch}
-use Rattle.suite_causes.specs.declared.searching.SearchFault.{SearchFault}
-use Rattle.suite_causes.specs.declared.searching.SearchFault.TheVariants as search_fault
+use Rattle.suite_causes.specs.Searching.{TestIds, HasAsked, HasProbeCause, SearchesSo, StopsSearch}
+use Rattle.suite_causes.specs.declared.cause_search.SearchFault.{SearchFault}
+use Rattle.suite_causes.specs.declared.cause_search.SearchFault.TheVariants as search_fault
 use Rattle.suite_causes.specs.declared.suspects.Suspect.{Suspect}
 use Rattle.suite_causes.proofs.AnalysisLemmas.{asked_is}
 use Rattle.suite_plan.specs.Children.{IsBroken}
@@ -29,11 +29,11 @@ use Rattle.command_steps.specs.Causes.{candidates_in, FindsAmong, FindsCause, Fi
 use Rattle.testr_commands.specs.Searches.{suspects_in, UseNoBroken, ProbesEnd}
 use Rattle.command_steps.specs.Outside.{Work}
 use Rattle.command_steps.specs.Steps.{stops, goes_on}
-use Rattle.command_steps.specs.Told.{tell_code}
+use Rattle.command_steps.specs.Told.{tell_exit_status}
 use Rattle.command_steps.specs.declared.answer.Refusal.{Refusal}
 use Rattle.command_steps.specs.declared.answer.Refusal.TheVariants as refusal
-use Rattle.command_steps.specs.declared.told.TellFault.{TellFault}
-use Rattle.command_steps.specs.declared.told.TellFault.TheVariants as tell_fault
+use Rattle.command_steps.specs.declared.question_answers.TellFault.{TellFault}
+use Rattle.command_steps.specs.declared.question_answers.TellFault.TheVariants as tell_fault
 use Rattle.command_steps.specs.Selecting.{Planned}
 use Rattle.testr_commands.proofs.ChainLemmas.{gives_not}
 use Rattle.testr_commands.proofs.FindLemmas.{TellsEvents, before_of, ids_so, cause_did, cause_still, suspects_are}
@@ -43,7 +43,7 @@ use Rattle.testr_commands.proofs.SuiteCauses.{NoCause, same_cause, moved, from_b
 -- ---- what a search that stopped had asked
 
 -- as many outputs were taken as probes asked
-as_many : (settings : Settings) (candidates : Ids) (test : List ℕ) (asked : List Asked) (s t : Spawning) → (has : HasAsked settings candidates test asked s t) → length has.outputs ≡ length asked
+as_many : (settings : Settings) (candidates : TestIds) (test : List ℕ) (asked : List Asked) (s t : Spawning) → (has : HasAsked settings candidates test asked s t) → length has.outputs ≡ length asked
 as_many settings candidates test asked s t has =
     sym (length-map has.outputs (fails_in test)) ∙ ap length (sym has.answers) ∙ length-map asked (λ (one : Asked). one.failed)
 
@@ -83,7 +83,7 @@ one_of P (first ∷ front) one rest zero less each = absurd (omega (arith, less)
 one_of P (first ∷ front) one rest (suc count) less each = one_of P front one rest count (omega (arith, less)) each.1
 
 -- where no child is broken that the search uses, it stops at none
-stops_broken : (settings : Settings) (candidates : Ids) (test : List ℕ) (s t : Spawning) → UsesNoBroken test candidates s.outputs → StopsSearch settings candidates test search_fault.Child s t → ⊥
+stops_broken : (settings : Settings) (candidates : TestIds) (test : List ℕ) (s t : Spawning) → UsesNoBroken test candidates s.outputs → StopsSearch settings candidates test search_fault.Child s t → ⊥
 stops_broken settings candidates test s t uses stop =
     let has = stop.has in
     let starts = stop.cause in
@@ -101,7 +101,7 @@ stops_broken settings candidates test s t uses stop =
     starts.meets
 
 -- what comes behind the outputs that a search used
-outputs_left : (settings : Settings) (candidates : Ids) (test : List ℕ) (found : Found) (s t : Spawning) → SearchesSo settings candidates test found s t → drop (length (asked_for test candidates s.outputs)) s.outputs ≡ t.outputs
+outputs_left : (settings : Settings) (candidates : TestIds) (test : List ℕ) (found : Found) (s t : Spawning) → SearchesSo settings candidates test found s t → drop (length (asked_for test candidates s.outputs)) s.outputs ≡ t.outputs
 outputs_left settings candidates test found s t so =
     let same : asked_for test candidates s.outputs ≡ so.asked = ap (asked_for test candidates) so.has.taken ∙ asked_is settings candidates test so.asked s t found t.outputs so.has so.licensed in
     ap (λ (l : List Asked). drop (length l) s.outputs) same ∙ ap (drop (length so.asked)) so.has.taken ∙ drop_at so.has.outputs t.outputs (length so.asked) (as_many settings candidates test so.asked s t so.has)
@@ -112,7 +112,7 @@ ran_never : (fault : TellFault) → NoCause (refusal.Ran fault)
 ran_never tell_fault.Shelf = ((λ three. omega (arith, three)), (λ child. child))
 ran_never tell_fault.NoMemory = ((λ three. omega (arith, three)), (λ child. child))
 
-search_never : (settings : Settings) (candidates : Ids) (test : List ℕ) (fault : SearchFault) (s t : Spawning) → UsesNoBroken test candidates s.outputs → StopsSearch settings candidates test fault s t → NoCause (refusal.Search fault)
+search_never : (settings : Settings) (candidates : TestIds) (test : List ℕ) (fault : SearchFault) (s t : Spawning) → UsesNoBroken test candidates s.outputs → StopsSearch settings candidates test fault s t → NoCause (refusal.Search fault)
 search_never settings candidates test search_fault.Spawn s t uses stop = ((λ three. omega (arith, three)), (λ child. child))
 search_never settings candidates test search_fault.Child s t uses stop = ((λ three. omega (arith, three)), (λ child. stops_broken settings candidates test s t uses stop))
 search_never settings candidates test search_fault.NoMemory s t uses stop = ((λ three. omega (arith, three)), (λ child. child))
@@ -124,7 +124,7 @@ module _ (settings : Settings) (number : ℕ) (events : List Event) (f : Folder)
 
   among_never : (one : Suspect) (more : List Suspect) (k b : Work) (r : Refusal) → NoBroken (one ∷ more) k.spawner.told → FindsAmong settings one.id (before_of settings number events f tells one) k b (Err r) → NoCause r
   among_never one more k b r uses (stops fault is step) =
-      let candidates : Ids = before_of settings number events f tells one in
+      let candidates : TestIds = before_of settings number events f tells one in
       same_cause (refusal.Search fault) r is
       (from_both k.spawner.told b.spawner.told (λ s. UseNoBroken events (one ∷ more) s.outputs) (StopsSearch settings candidates one.id fault) uses step.at.refused (λ s t both stop. search_never settings candidates one.id fault s t both.0 stop))
   among_never one more k b r uses (goes_on found l step (stops fault is printed)) = same_cause (refusal.Print fault) r is ((λ three. omega (arith, three)), (λ child. child))
@@ -140,7 +140,7 @@ module _ (settings : Settings) (number : ℕ) (events : List Event) (f : Folder)
   each_never (one ∷ more) a b r told uses (stops fault is step) = same_cause fault r is (cause_never one more a b fault told uses step)
   each_never (one ∷ more) a b r told uses (goes_on v m step next) =
       let did = cause_did settings number events f tells one a m v told step in
-      let candidates : Ids = before_of settings number events f tells one in
+      let candidates : TestIds = before_of settings number events f tells one in
       let rest : NoBroken more m.spawner.told =
       moved a.spawner.told m.spawner.told (λ s. UseNoBroken events (one ∷ more) s.outputs) (λ s. UseNoBroken events more s.outputs) (SearchesSo settings candidates one.id did.found) uses did.searched
       (λ s t both so. subst (UseNoBroken events more) (outputs_left settings candidates one.id did.found s t so) both.1) in

@@ -7,34 +7,34 @@ use Rattle.edge_io.proofs.Passing.{passes_weaker}
 use Rattle.run_ledger.specs.Refreshing.{KeepsSound}
 use Rattle.run_shelf.specs.Images.{PassesOld, PassesFormat, HasFormatBeside}
 use Rattle.testr_commands.specs.Answer.{may_have_kept, IsChildFault}
-use Rattle.command_steps.specs.Refusals.{refusal_code, code_of, place_in}
+use Rattle.command_steps.specs.Refusals.{refusal_exit_status, exit_status, fault_place_in}
 use Rattle.command_steps.specs.Outside.{Outside, Work, work_of, shown, work_out, Place, SomeRose, SameCounts, RisesAt}
 use Rattle.testr_commands.specs.Printed.{PrintsInPart}
 use Rattle.run_ledger.proofs.SoundLemmas.{sound_without}
 use Rattle.old_upgrade.specs.Upgrading.{PassesUpgrade, StaysOrNot, IsEither}
 use Rattle.testr_commands.specs.Upgrade.{DidUpgrade, KeepsWithoutCaches}
 use Rattle.testr_commands.proofs.UpgradeLaws.{upgrade_refuses, upgrade_counts, upgrade_moments, upgrade_sound, upgrade_repository, upgrade_keeps, upgrade_prints, upgrade_did, upgrade_never}
-use Rattle.testr_commands.specs.Program.{Performs, Does, CanPerform, Leaves, Keeps, KeepsSoundFor, StartsPrograms, SomeFailed, IsPerformed, GivesUp, Answers, Promises, AnswersQuestion}
+use Rattle.testr_commands.specs.Program.{Performs, Does, CanPerform, Leaves, KeepsWithoutRun, KeepsSoundFor, StartsPrograms, SomeFailed, IsPerformed, GivesUp, Answers, Promises, AnswersQuestion}
 use Rattle.command_steps.specs.Runs.{KeepsFiles, KeepsRepository, KeepsRuns}
 use Rattle.testr_commands.specs.Stops.{PassesTask, PassesLoad, HasLoadedRun}
 use Rattle.testr_commands.specs.SuiteStops.{PassesSuiteRun}
 use Rattle.testr_words.specs.Tasks.{Task, init, load, ask, list, run, selftest, upgrade}
-use Rattle.command_steps.specs.Verdicts.{verdict_code}
+use Rattle.command_steps.specs.Verdicts.{verdict_exit_status}
 use Rattle.command_steps.specs.declared.answer.Verdict.{Verdict}
 use Rattle.command_steps.specs.declared.answer.Verdict.TheVariants.{Passed, Failed}
 use Rattle.command_steps.specs.declared.answer.Refusal.{Refusal}
 use Rattle.testr_words.specs.declared.command.Question.{Question}
-use Rattle.testr_words.specs.declared.drawing.Drawing.{Drawing}
+use Rattle.testr_words.specs.declared.selftest_words.SelfTestWords.{SelfTestWords}
 use Rattle.testr_commands.proofs.CauseLaws.{init_never, load_never, ask_never}
 use Rattle.testr_commands.proofs.ChainLemmas.{IsRefused}
 use Rattle.testr_commands.proofs.CommandLaws.{load_refuses, load_counts, load_beside, ask_refuses, ask_counts, ask_quiet, init_refuses, init_counts}
 use Rattle.testr_commands.proofs.DoneLaws.{init_made, init_passed, load_did, ask_did}
 use Rattle.testr_commands.proofs.KeepLemmas.{keeps_runs, init_keeps, init_repository, load_keeps}
-use Rattle.testr_commands.proofs.KeepingLaws.{Moves, quiet_moves}
+use Rattle.testr_commands.proofs.KeepingLaws.{MovesSoundly, quiet_moves}
 use Rattle.testr_commands.proofs.MomentLaws.{init_moves, init_sound, load_moves}
 use Rattle.testr_commands.proofs.PrintedLaws.{load_prints, ask_prints, list_prints, selftest_prints}
 use Rattle.testr_commands.proofs.RefusalLemmas.{codes, IsFault, of_part, of_child, faults, some_rose}
-use Rattle.command_steps.proofs.Resting.{Rests, rests_same}
+use Rattle.command_steps.proofs.Resting.{KeepsReads, rests_same}
 use Rattle.testr_commands.proofs.SelfTestLaws.{selftest_beside, selftest_failed, selftest_never, selftest_did}
 use Rattle.command_steps.proofs.SoundLemmas.{rests_repository, rests_sound}
 use Rattle.testr_commands.proofs.StepLaws.{still_counts}
@@ -48,7 +48,7 @@ use Rattle.testr_commands.proofs.SuiteNever.{run_never}
 use Rattle.testr_commands.proofs.SuiteQuiet.{list_same}
 use Rattle.testr_commands.proofs.SuiteReach.{same_few}
 
-verdicts : (v : Verdict) → verdict_code v ≤ 1
+verdicts : (v : Verdict) → verdict_exit_status v ≤ 1
 verdicts Passed = omega arith
 verdicts Failed = omega arith
 
@@ -74,11 +74,11 @@ no_fault none child (inr given) = child given.1
 -- ---- where the folder is as it was
 
 module _ (a b : Work) (same : b.folder ≡ a.folder) where
-  same_quiet : Goes a.folder.told b.folder.told Rests
+  same_quiet : Goes a.folder.told b.folder.told KeepsReads
   same_quiet = rests_same a.folder.told b.folder.told (λ i. (same i).told)
 
   same_sound : Goes a.folder.told b.folder.told KeepsSound
-  same_sound = goes_weaker a.folder.told b.folder.told Rests KeepsSound same_quiet rests_sound
+  same_sound = goes_weaker a.folder.told b.folder.told KeepsReads KeepsSound same_quiet rests_sound
 
   same_sound_for : (asked : Option Task) → Goes a.folder.told b.folder.told (KeepsSoundFor asked)
   same_sound_for (Some upgrade) =
@@ -87,19 +87,19 @@ module _ (a b : Work) (same : b.folder ≡ a.folder) where
   same_sound_for asked = same_sound
 
   same_repository : Goes a.folder.told b.folder.told KeepsRepository
-  same_repository = goes_weaker a.folder.told b.folder.told Rests KeepsRepository same_quiet rests_repository
+  same_repository = goes_weaker a.folder.told b.folder.told KeepsReads KeepsRepository same_quiet rests_repository
 
-  same_keeps : (asked : Option Task) → Goes a.folder.told b.folder.told (Keeps asked)
-  same_keeps (Some init) = goes_weaker a.folder.told b.folder.told Rests KeepsRuns same_quiet keeps_runs
-  same_keeps (Some upgrade) = goes_weaker a.folder.told b.folder.told Rests StaysOrNot same_quiet (λ s t rests. inl rests.files)
-  same_keeps asked = goes_weaker a.folder.told b.folder.told Rests KeepsFiles same_quiet (λ s t rests. rests.files)
+  same_keeps : (asked : Option Task) → Goes a.folder.told b.folder.told (KeepsWithoutRun asked)
+  same_keeps (Some init) = goes_weaker a.folder.told b.folder.told KeepsReads KeepsRuns same_quiet keeps_runs
+  same_keeps (Some upgrade) = goes_weaker a.folder.told b.folder.told KeepsReads StaysOrNot same_quiet (λ s t rests. inl rests.files)
+  same_keeps asked = goes_weaker a.folder.told b.folder.told KeepsReads KeepsFiles same_quiet (λ s t rests. rests.files)
 
   same_moments : (asked : Option Task) → Goes a.folder.told b.folder.told (PassesTask asked a b)
-  same_moments (Some init) = goes_weaker a.folder.told b.folder.told Rests PassesFormat same_quiet (λ s t rests. passes_weaker (IsImage s.disk) (λ image. IsImage s.disk image ⊎ HasFormatBeside s.disk.published image) (λ image left. inl left) s t rests.old)
-  same_moments (Some (load options names)) = goes_weaker a.folder.told b.folder.told (Moves (HasLoadedRun options.partial names a.site.told a.input.told)) (PassesLoad options.partial names a.site.told a.input.told) (quiet_moves (HasLoadedRun options.partial names a.site.told a.input.told) a.folder.told b.folder.told same_quiet) (λ s t moves. moves.stops)
-  same_moments (Some (ask question)) = goes_weaker a.folder.told b.folder.told Rests PassesOld same_quiet (λ s t rests. rests.old)
-  same_moments (Some (run options)) = goes_weaker a.folder.told b.folder.told Rests (PassesSuiteRun options a b) same_quiet (λ s t rests. inl rests.old)
-  same_moments (Some upgrade) = goes_weaker a.folder.told b.folder.told Rests PassesUpgrade same_quiet (λ s t rests. passes_weaker (IsImage s.disk) (λ image. IsImage s.disk image ⊎ IsEither s.disk.published image) (λ image left. inl left) s t rests.old)
+  same_moments (Some init) = goes_weaker a.folder.told b.folder.told KeepsReads PassesFormat same_quiet (λ s t rests. passes_weaker (IsImage s.disk) (λ image. IsImage s.disk image ⊎ HasFormatBeside s.disk.published image) (λ image left. inl left) s t rests.old)
+  same_moments (Some (load options names)) = goes_weaker a.folder.told b.folder.told (MovesSoundly (HasLoadedRun options.partial names a.site.told a.input.told)) (PassesLoad options.partial names a.site.told a.input.told) (quiet_moves (HasLoadedRun options.partial names a.site.told a.input.told) a.folder.told b.folder.told same_quiet) (λ s t moves. moves.stops)
+  same_moments (Some (ask question)) = goes_weaker a.folder.told b.folder.told KeepsReads PassesOld same_quiet (λ s t rests. rests.old)
+  same_moments (Some (run options)) = goes_weaker a.folder.told b.folder.told KeepsReads (PassesSuiteRun options a b) same_quiet (λ s t rests. inl rests.old)
+  same_moments (Some upgrade) = goes_weaker a.folder.told b.folder.told KeepsReads PassesUpgrade same_quiet (λ s t rests. passes_weaker (IsImage s.disk) (λ image. IsImage s.disk image ⊎ IsEither s.disk.published image) (λ image left. inl left) s t rests.old)
   same_moments asked = stays a.folder.told b.folder.told (λ i. (same i).told)
 
 -- ---- from the chains: a line for each task
@@ -123,21 +123,21 @@ module _ (a b : Work) where
   counted (selftest drawing) v done = selftest_counted drawing a b v done
   counted upgrade v done = subst (SameCounts a) (sym done.rest) (upgrade_counts a.site a.spawner a.input (shown a.folder a.out) (shown b.folder b.out) v done.at)
 
-  failed : (task : Task) (r : Refusal) → Performs (Some task) a b (Err r) → refusal_code r ≡ 4 → SomeFailed (Some task) a b ⊎ (StartsPrograms (Some task) × IsChildFault (Err r))
+  failed : (task : Task) (r : Refusal) → Performs (Some task) a b (Err r) → refusal_exit_status r ≡ 4 → SomeFailed (Some task) a b ⊎ (StartsPrograms (Some task) × IsChildFault (Err r))
   failed (selftest drawing) r done four = inl (selftest_failed drawing a b r done four)
   failed task r done four = by_fault (StartsPrograms (Some task)) r a b (refused task r done) (faults r four)
 
-  asked_rests : (question : Question) (outcome : Result Verdict Refusal) → Performs (Some (ask question)) a b outcome → Goes a.folder.told b.folder.told Rests
+  asked_rests : (question : Question) (outcome : Result Verdict Refusal) → Performs (Some (ask question)) a b outcome → Goes a.folder.told b.folder.told KeepsReads
   asked_rests question outcome done = ask_quiet a.site a.spawner a.input question (shown a.folder a.out) (shown b.folder b.out) outcome done.at
 
-  tested : (drawing : Drawing) (outcome : Result Verdict Refusal) → Performs (Some (selftest drawing)) a b outcome → work_out.put b a.out ≡ work_out.put a a.out
+  tested : (drawing : SelfTestWords) (outcome : Result Verdict Refusal) → Performs (Some (selftest drawing)) a b outcome → work_out.put b a.out ≡ work_out.put a a.out
   tested drawing outcome done = selftest_beside a.out drawing a b outcome done
 
   moments_of : (asked : Option Task) (outcome : Result Verdict Refusal) → Performs asked a b outcome → Goes a.folder.told b.folder.told (PassesTask asked a b)
   moments_of None outcome done = same_moments a b (λ i. (done.same i).folder) None
   moments_of (Some init) outcome done = init_moves a.folder b.folder outcome done.at
-  moments_of (Some (load options names)) outcome done = goes_weaker a.folder.told b.folder.told (Moves (HasLoadedRun options.partial names a.site.told a.input.told)) (PassesLoad options.partial names a.site.told a.input.told) (load_moves options names a b outcome done) (λ s t moves. moves.stops)
-  moments_of (Some (ask question)) outcome done = goes_weaker a.folder.told b.folder.told Rests PassesOld (asked_rests question outcome done) (λ s t rests. rests.old)
+  moments_of (Some (load options names)) outcome done = goes_weaker a.folder.told b.folder.told (MovesSoundly (HasLoadedRun options.partial names a.site.told a.input.told)) (PassesLoad options.partial names a.site.told a.input.told) (load_moves options names a b outcome done) (λ s t moves. moves.stops)
+  moments_of (Some (ask question)) outcome done = goes_weaker a.folder.told b.folder.told KeepsReads PassesOld (asked_rests question outcome done) (λ s t rests. rests.old)
   moments_of (Some (list options)) outcome done = same_moments a b (list_same options a b outcome done) (Some (list options))
   moments_of (Some (run options)) outcome done = goes_weaker a.folder.told b.folder.told (RunsMoves options a b) (PassesSuiteRun options a b) (run_suite_moves options a b outcome done) (λ s t moves. moves.stops)
   moments_of (Some (selftest drawing)) outcome done = same_moments a b (λ i. (tested drawing outcome done i).folder) (Some (selftest drawing))
@@ -146,8 +146,8 @@ module _ (a b : Work) where
   sound_of : (asked : Option Task) (outcome : Result Verdict Refusal) → Performs asked a b outcome → Goes a.folder.told b.folder.told (KeepsSoundFor asked)
   sound_of None outcome done = same_sound a b (λ i. (done.same i).folder)
   sound_of (Some init) outcome done = init_sound a.folder b.folder outcome done.at
-  sound_of (Some (load options names)) outcome done = goes_weaker a.folder.told b.folder.told (Moves (HasLoadedRun options.partial names a.site.told a.input.told)) KeepsSound (load_moves options names a b outcome done) (λ s t moves. moves.sound)
-  sound_of (Some (ask question)) outcome done = goes_weaker a.folder.told b.folder.told Rests KeepsSound (asked_rests question outcome done) rests_sound
+  sound_of (Some (load options names)) outcome done = goes_weaker a.folder.told b.folder.told (MovesSoundly (HasLoadedRun options.partial names a.site.told a.input.told)) KeepsSound (load_moves options names a b outcome done) (λ s t moves. moves.sound)
+  sound_of (Some (ask question)) outcome done = goes_weaker a.folder.told b.folder.told KeepsReads KeepsSound (asked_rests question outcome done) rests_sound
   sound_of (Some (list options)) outcome done = same_sound a b (list_same options a b outcome done)
   sound_of (Some (run options)) outcome done = goes_weaker a.folder.told b.folder.told (RunsMoves options a b) KeepsSound (run_suite_moves options a b outcome done) (λ s t moves. moves.sound)
   sound_of (Some (selftest drawing)) outcome done = same_sound a b (λ i. (tested drawing outcome done i).folder)
@@ -156,29 +156,29 @@ module _ (a b : Work) where
   repository_of : (asked : Option Task) (outcome : Result Verdict Refusal) → Performs asked a b outcome → Goes a.folder.told b.folder.told KeepsRepository
   repository_of None outcome done = same_repository a b (λ i. (done.same i).folder)
   repository_of (Some init) outcome done = init_repository a.folder b.folder outcome done.at
-  repository_of (Some (load options names)) outcome done = goes_weaker a.folder.told b.folder.told (Moves (HasLoadedRun options.partial names a.site.told a.input.told)) KeepsRepository (load_moves options names a b outcome done) (λ s t moves. moves.repository)
-  repository_of (Some (ask question)) outcome done = goes_weaker a.folder.told b.folder.told Rests KeepsRepository (asked_rests question outcome done) rests_repository
+  repository_of (Some (load options names)) outcome done = goes_weaker a.folder.told b.folder.told (MovesSoundly (HasLoadedRun options.partial names a.site.told a.input.told)) KeepsRepository (load_moves options names a b outcome done) (λ s t moves. moves.repository)
+  repository_of (Some (ask question)) outcome done = goes_weaker a.folder.told b.folder.told KeepsReads KeepsRepository (asked_rests question outcome done) rests_repository
   repository_of (Some (list options)) outcome done = same_repository a b (list_same options a b outcome done)
   repository_of (Some (run options)) outcome done = goes_weaker a.folder.told b.folder.told (RunsMoves options a b) KeepsRepository (run_suite_moves options a b outcome done) (λ s t moves. moves.repository)
   repository_of (Some (selftest drawing)) outcome done = same_repository a b (λ i. (tested drawing outcome done i).folder)
   repository_of (Some upgrade) outcome done = upgrade_repository (shown a.folder a.out) (shown b.folder b.out) outcome done.at
 
-  kept_of : (asked : Option Task) (outcome : Result Verdict Refusal) → Performs asked a b outcome → may_have_kept asked outcome ≡ false → Goes a.folder.told b.folder.told (Keeps asked)
+  kept_of : (asked : Option Task) (outcome : Result Verdict Refusal) → Performs asked a b outcome → may_have_kept asked outcome ≡ false → Goes a.folder.told b.folder.told (KeepsWithoutRun asked)
   kept_of None outcome done not = same_keeps a b (λ i. (done.same i).folder) None
   kept_of (Some init) outcome done not = init_keeps a.folder b.folder outcome done.at
   kept_of (Some (load options names)) (Ok v) done not = cc
   kept_of (Some (load options names)) (Err r) done not = load_keeps options names a b r done not
-  kept_of (Some (ask question)) outcome done not = goes_weaker a.folder.told b.folder.told Rests KeepsFiles (asked_rests question outcome done) (λ s t rests. rests.files)
+  kept_of (Some (ask question)) outcome done not = goes_weaker a.folder.told b.folder.told KeepsReads KeepsFiles (asked_rests question outcome done) (λ s t rests. rests.files)
   kept_of (Some (list options)) outcome done not = same_keeps a b (list_same options a b outcome done) (Some (list options))
   kept_of (Some (run options)) (Ok v) done not = cc
   kept_of (Some (run options)) (Err r) done not = run_keeps options a b r done not
   kept_of (Some (selftest drawing)) outcome done not = same_keeps a b (λ i. (tested drawing outcome done i).folder) (Some (selftest drawing))
   kept_of (Some upgrade) outcome done not = upgrade_keeps (shown a.folder a.out) (shown b.folder b.out) outcome done.at not
 
-  did_of : (task : Task) (v : Verdict) → Performs (Some task) a b (Ok v) → Does (Some task) a b (verdict_code v)
+  did_of : (task : Task) (v : Verdict) → Performs (Some task) a b (Ok v) → Does (Some task) a b (verdict_exit_status v)
   did_of init v done = (init_made a.folder b.folder v done.at, init_passed a.folder b.folder v done.at)
   did_of (load options names) v done = load_did options names a b v done
-  did_of (ask question) v done = subst (λ (w : Work). AnswersQuestion question a w (verdict_code v)) (sym done.rest) (ask_did question a.site a.spawner a.input (shown a.folder a.out) (shown b.folder b.out) v done.at)
+  did_of (ask question) v done = subst (λ (w : Work). AnswersQuestion question a w (verdict_exit_status v)) (sym done.rest) (ask_did question a.site a.spawner a.input (shown a.folder a.out) (shown b.folder b.out) v done.at)
   did_of (list options) v done = list_did options a b v done
   did_of (run options) v done = run_did options a b v done
   did_of (selftest drawing) v done = selftest_did drawing a b v done
@@ -211,39 +211,39 @@ module _ (a b : Work) where
 
   -- ---- from these: once for all
 
-  counts_of : (asked : Option Task) (outcome : Result Verdict Refusal) → Performs asked a b outcome → RisesAt (place_in outcome) a b
-  counts_of None outcome done = subst (λ (r : Result Verdict Refusal). RisesAt (place_in r) a b) (sym done.usage) (still_counts a b done.same)
+  counts_of : (asked : Option Task) (outcome : Result Verdict Refusal) → Performs asked a b outcome → RisesAt (fault_place_in outcome) a b
+  counts_of None outcome done = subst (λ (r : Result Verdict Refusal). RisesAt (fault_place_in r) a b) (sym done.usage) (still_counts a b done.same)
   counts_of (Some task) (Ok v) done = counted task v done
   counts_of (Some task) (Err r) done = (refused task r done).counts
 
   module _ (answer : ℕ) where
-    usage_of : (asked : Option Task) (outcome : Result Verdict Refusal) → Performs asked a b outcome → answer ≡ code_of outcome → (answer ≡ 2 → asked ≡ None) × (asked ≡ None → answer ≡ 2)
-    usage_of None outcome done code = (λ two. refl, λ none. code ∙ ap code_of done.usage)
+    usage_of : (asked : Option Task) (outcome : Result Verdict Refusal) → Performs asked a b outcome → answer ≡ exit_status outcome → (answer ≡ 2 → asked ≡ None) × (asked ≡ None → answer ≡ 2)
+    usage_of None outcome done code = (λ two. refl, λ none. code ∙ ap exit_status done.usage)
     usage_of (Some task) (Ok v) done code = (λ two. absurd (omega (arith, verdicts v, code, two)), λ none. cc)
     usage_of (Some task) (Err r) done code = (λ two. absurd (omega (arith, code, two, (codes r (refused task r done).named).least)), λ none. cc)
 
-    fault_of : (asked : Option Task) (outcome : Result Verdict Refusal) → Performs asked a b outcome → answer ≡ code_of outcome → answer ≡ 4 → SomeFailed asked a b ⊎ (StartsPrograms asked × IsChildFault outcome)
+    fault_of : (asked : Option Task) (outcome : Result Verdict Refusal) → Performs asked a b outcome → answer ≡ exit_status outcome → answer ≡ 4 → SomeFailed asked a b ⊎ (StartsPrograms asked × IsChildFault outcome)
     fault_of None outcome done code four =
-        let two : answer ≡ 2 = code ∙ ap code_of done.usage in
+        let two : answer ≡ 2 = code ∙ ap exit_status done.usage in
         absurd (omega (arith, two, four))
     fault_of (Some task) (Ok v) done code four = absurd (omega (arith, verdicts v, code, four))
     fault_of (Some task) (Err r) done code four = failed task r done (sym code ∙ four)
 
-    did_at : (asked : Option Task) (outcome : Result Verdict Refusal) → Performs asked a b outcome → answer ≡ code_of outcome → answer ≤ 1 → Does asked a b answer
+    did_at : (asked : Option Task) (outcome : Result Verdict Refusal) → Performs asked a b outcome → answer ≡ exit_status outcome → answer ≤ 1 → Does asked a b answer
     did_at None outcome done code few =
-        let two : answer ≡ 2 = code ∙ ap code_of done.usage in
+        let two : answer ≡ 2 = code ∙ ap exit_status done.usage in
         omega (arith, two, few)
     did_at (Some task) (Ok v) done code few = subst (λ (n : ℕ). Does (Some task) a b n) (sym code) (did_of task v done)
     did_at (Some task) (Err r) done code few = absurd (omega (arith, code, few, (codes r (refused task r done).named).least))
 
-    few_or_five : (task : Task) (outcome : Result Verdict Refusal) → Performs (Some task) a b outcome → answer ≡ code_of outcome → CanPerform (Some task) a → (SomeFailed (Some task) a b → ⊥) → (answer ≤ 1) ⊎ (answer ≡ 5)
+    few_or_five : (task : Task) (outcome : Result Verdict Refusal) → Performs (Some task) a b outcome → answer ≡ exit_status outcome → CanPerform (Some task) a → (SomeFailed (Some task) a b → ⊥) → (answer ≤ 1) ⊎ (answer ≡ 5)
     few_or_five task (Ok v) done code can none = inl (omega (arith, verdicts v, code))
     few_or_five task (Err r) done code can none =
         let is = codes r (refused task r done).named in
         let never = never_of task r done can in
-        inr (by_code answer (refusal_code r) code is.least is.most never.0 (λ four. no_fault none never.1 (failed task r done four)))
+        inr (by_code answer (refusal_exit_status r) code is.least is.most never.0 (λ four. no_fault none never.1 (failed task r done four)))
 
-    complete_of : (asked : Option Task) (outcome : Result Verdict Refusal) → Performs asked a b outcome → answer ≡ code_of outcome → CanPerform asked a → (SomeFailed asked a b → ⊥) → IsPerformed asked answer
+    complete_of : (asked : Option Task) (outcome : Result Verdict Refusal) → Performs asked a b outcome → answer ≡ exit_status outcome → CanPerform asked a → (SomeFailed asked a b → ⊥) → IsPerformed asked answer
     complete_of None outcome done code can none = can
     complete_of (Some init) (Ok v) done code can none = code ∙ init_passed a.folder b.folder v done.at
     complete_of (Some init) (Err r) done code can none = absurd (no_fault none (no_child init r (λ starts. starts) done) (failed init r done (init_never a.folder b.folder r done.at can)))
@@ -301,11 +301,11 @@ module _ (reading : Bool) (asked : Option Task) (before after : Outside) (answer
   -- where memory was wanting for the words
   gave_up : (answers : Answers reading asked before after answer) → IsTrue reading → GivesUp a b answers.outcome → Promises reading asked before after answer
   gave_up answers reads gives =
-      let five : answer ≡ 5 = answers.told.code ∙ ap code_of gives.memory in
+      let five : answer ≡ 5 = answers.told.code ∙ ap exit_status gives.memory in
       let same : b.folder ≡ a.folder = λ i. (gives.same i).folder in
       record {
         answers = answers;
-        counts = subst (λ (r : Result Verdict Refusal). RisesAt (place_in r) a b) (sym gives.memory) (still_counts a b gives.same);
+        counts = subst (λ (r : Result Verdict Refusal). RisesAt (fault_place_in r) a b) (sym gives.memory) (still_counts a b gives.same);
         usage = λ two. absurd (omega (arith, five, two));
         no_command = λ none. inr (reads, five);
         fault = λ four. absurd (omega (arith, five, four));

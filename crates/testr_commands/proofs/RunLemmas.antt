@@ -14,7 +14,7 @@ use Rattle.command_steps.specs.Working.{Works}
 use Rattle.command_steps.specs.declared.answer.Refusal.{Refusal}
 use Rattle.command_steps.specs.declared.answer.Verdict.{Verdict}
 use Rattle.command_steps.specs.Causes.{FindsCauses}
-use Rattle.command_steps.specs.Verdicts.{verdict_of, verdict_code}
+use Rattle.command_steps.specs.Verdicts.{verdict_of, verdict_exit_status}
 use Rattle.command_steps.specs.declared.answer.Verdict.TheVariants.{Passed, Failed}
 use Rattle.testr_commands.proofs.ChainLemmas.{then_did}
 use Rattle.testr_commands.proofs.DoneLaws.{same_verdict}
@@ -54,12 +54,12 @@ causes_asked false settings number rows a b result on finds = cc
 
 -- ---- where no test fails
 
-passes_code : (verdict : Verdict) → verdict_code verdict ≡ 0 → verdict ≡ Passed
+passes_code : (verdict : Verdict) → verdict_exit_status verdict ≡ 0 → verdict ≡ Passed
 passes_code Passed none = refl
 passes_code Failed none = absurd (omega (arith, none))
 
 -- the verdict that was told is that of the rows
-pub verdict_passed : (format : FormatKind) (number : ℕ) (tags : List (List ℕ)) (rows : List Row) (a b : Work) (verdict : Verdict) → TellsRun format number tags rows a b (Ok verdict) → verdict_code verdict ≡ 0 → verdict_of rows ≡ Passed
+pub verdict_passed : (format : FormatKind) (number : ℕ) (tags : List (List ℕ)) (rows : List Row) (a b : Work) (verdict : Verdict) → TellsRun format number tags rows a b (Ok verdict) → verdict_exit_status verdict ≡ 0 → verdict_of rows ≡ Passed
 verdict_passed format number tags rows a b verdict tells none =
     let made = then_did verdict tells in
     let printed = then_did verdict made.next in

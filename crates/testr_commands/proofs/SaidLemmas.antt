@@ -3,17 +3,17 @@ use Rattle.std.proofs.Common.{◌≡◌, ℕ, ◌≤◌, Bool, true, false, Opti
 use Rattle.edge_io.specs.Disk.{Folder}
 use Rattle.outcome_fold.specs.declared.row.Row.{Row}
 use Rattle.suite_run.specs.Aloud.{Sinks}
-use Rattle.suite_run.specs.declared.ear.Shown.{Shown}
+use Rattle.suite_run.specs.declared.run_listener.Shown.{Shown}
 use Rattle.testr_conf.specs.Settings.{Settings}
 use Rattle.command_steps.specs.Outside.{Work}
 use Rattle.command_steps.specs.Speaking.{SaysRun, SaysSome, SaysAloud}
 use Rattle.command_steps.specs.declared.answer.Refusal.{Refusal}
 use Rattle.command_steps.specs.declared.answer.Verdict.{Verdict}
-use Rattle.command_steps.specs.declared.speaking.Silenced.{Silenced}
+use Rattle.command_steps.specs.declared.live_lines.Silenced.{Silenced}
 use Rattle.command_steps.proofs.SpeakLemmas.{none_said}
 use Rattle.testr_commands.specs.RunSuite.{TellsRun, TellsAndFinds}
 use Rattle.testr_commands.proofs.ChainLemmas.{LeavesPart, then_leaves}
-use Rattle.testr_commands.proofs.FindLemmas.{told_of, causes_still}
+use Rattle.testr_commands.proofs.FindLemmas.{folder_told, causes_still}
 use Rattle.testr_words.specs.declared.format.FormatKind.{FormatKind}
 
 -- it was refused before its workers were read
@@ -37,15 +37,15 @@ pub load_said : (shown : Shown) (partial : Bool) (answer : ℕ) (folder : Option
 load_said shown partial answer folder before after silenced some whole = record { some = some; none = λ never three. cc; whole = λ small. whole }
 
 -- what is told of a run that is kept, and the search for causes, leave what reads give
-run_still : (format : FormatKind) (number : ℕ) (filter_tags : List (List ℕ)) (rows : List Row) → LeavesPart told_of (TellsRun format number filter_tags rows)
+run_still : (format : FormatKind) (number : ℕ) (filter_tags : List (List ℕ)) (rows : List Row) → LeavesPart folder_told (TellsRun format number filter_tags rows)
 run_still format number filter_tags rows =
-    then_leaves told_of (λ a b r s i. (s.same i).folder.told) (λ report.
-    then_leaves told_of (λ a b r s i. (s.rest i).folder.told) (λ _ a b r s i. (s.same i).folder.told))
+    then_leaves folder_told (λ a b r s i. (s.same i).folder.told) (λ report.
+    then_leaves folder_told (λ a b r s i. (s.rest i).folder.told) (λ _ a b r s i. (s.same i).folder.told))
 
-pub tells_still : (format : FormatKind) (asked : Bool) (settings : Settings) (number : ℕ) (rows : List Row) → LeavesPart told_of (TellsAndFinds format asked settings number rows)
+pub tells_still : (format : FormatKind) (asked : Bool) (settings : Settings) (number : ℕ) (rows : List Row) → LeavesPart folder_told (TellsAndFinds format asked settings number rows)
 tells_still format asked settings number rows =
-    then_leaves told_of (run_still format number settings.filter_tags rows) (λ verdict.
-    then_leaves told_of (causes_still asked settings number rows) (λ _ a b r s i. (s.same i).folder.told))
+    then_leaves folder_told (run_still format number settings.filter_tags rows) (λ verdict.
+    then_leaves folder_told (causes_still asked settings number rows) (λ _ a b r s i. (s.same i).folder.told))
 
 -- it was kept, and told of
 pub said_done : (shown : Shown) (given partial : Bool) (answer : ℕ) (kept folder : Option Folder) (before after : Sinks) (silenced : Silenced) → given ≡ partial → (answer ≡ 3 → ⊥) → SaysSome shown given kept before after silenced → SaysRun shown given kept before after silenced

@@ -9,7 +9,7 @@ use Rattle.std.proofs.lemmas.List.{length-append}
 use Rattle.std.proofs.lemmas.List.Elements.{All-head, All-tail, All-weaker}
 use Rattle.std.proofs.lemmas.List.Folds.{flat_map-map}
 use Rattle.std.proofs.lemmas.List.FromFn.{length-map-range_with_len}
-use Rattle.drawn_lanes.specs.Outputs.{HasPacket, events_of, output_of, outputs_of, state_of}
+use Rattle.drawn_lanes.specs.Outputs.{HasLanePacket, drawn_events, drawn_output, outputs_of, lane_state}
 use Rattle.drawn_lanes.proofs.RunLemmas.{lane_has_packets}
 use Rattle.edge_io.specs.Children.{Output}
 use Rattle.edge_io.specs.Disk.{Files, Folder}
@@ -27,7 +27,7 @@ use Rattle.packet_codec.specs.Routing.{under}
 use Rattle.packet_codec.specs.declared.event.Event.{Event}
 use Rattle.stream_reader.specs.declared.note.Note.{Note}
 use Rattle.stream_reader.specs.declared.note.Note.TheVariants as note
-use Rattle.stream_reader.proofs.NotesLemmas.{packets_of, notes_of_packets, cut_of_written}
+use Rattle.stream_reader.proofs.NotesLemmas.{packet_pieces, notes_of_packets, cut_of_written}
 use Rattle.stream_reader.proofs.TurnLemmas.{one_notes}
 use Rattle.suite_run.specs.Starting.{StartsAll}
 use Rattle.suite_run.specs.Summed.{GivesSums}
@@ -42,7 +42,7 @@ use Rattle.command_steps.specs.Outside.{Work, work}
 use Rattle.command_steps.specs.Working.{Works}
 use Rattle.testr_commands.specs.SelfTest.{RunsInTurn, lane_of, rows_in_turn}
 use Rattle.command_steps.specs.declared.answer.Refusal.{Refusal}
-use Rattle.testr_words.specs.declared.drawing.Drawing.{Drawing}
+use Rattle.testr_words.specs.declared.selftest_words.SelfTestWords.{SelfTestWords}
 use Rattle.testr_commands.proofs.MergeLaws.{AreOfOutputs}
 use Rattle.testr_commands.proofs.PacketBytes.{packets_bytes}
 use Rattle.testr_commands.proofs.SuiteDone.{work_did}
@@ -79,47 +79,47 @@ ran_in_turn number filter_tags jobs folder left spawner after (Err refusal) none
 
 -- ---- one drawn worker
 
-of_packets : (lane : ℕ) (events : List Event) → All (HasPacket lane) events → (All IsEvent events) × All Fits events
-of_packets lane events have = (All-weaker (HasPacket lane) IsEvent (λ e has. has.is_event) events have, All-weaker (HasPacket lane) Fits (λ e has. has.fits) events have)
+of_packets : (lane : ℕ) (events : List Event) → All (HasLanePacket lane) events → (All IsEvent events) × All Fits events
+of_packets lane events have = (All-weaker (HasLanePacket lane) IsEvent (λ e has. has.is_event) events have, All-weaker (HasLanePacket lane) Fits (λ e has. has.fits) events have)
 
-event_under : (lane : ℕ) (e : Event) → HasPacket lane e → recorded_event lane e ≡ under lane e ∷ []
+event_under : (lane : ℕ) (e : Event) → HasLanePacket lane e → recorded_event lane e ≡ under lane e ∷ []
 event_under lane e has = recorded_whole lane e has.fits_under.size
 
-events_under : (lane : ℕ) (events : List Event) → All (HasPacket lane) events → recorded_events lane (map note.Event events) ≡ map (under lane) events
+events_under : (lane : ℕ) (events : List Event) → All (HasLanePacket lane) events → recorded_events lane (map note.Event events) ≡ map (under lane) events
 events_under lane [] have = refl
-events_under lane (e ∷ events) have = λ i. event_under lane e (All-head (HasPacket lane) e events have) i ++ events_under lane events (All-tail (HasPacket lane) e events have) i
+events_under lane (e ∷ events) have = λ i. event_under lane e (All-head (HasLanePacket lane) e events have) i ++ events_under lane events (All-tail (HasLanePacket lane) e events have) i
 
 -- what is recorded of packets is their events under the lane
-recorded_under : (lane : ℕ) (events : List Event) → All (HasPacket lane) events → stream_events lane (flat_map canonical events) ≡ map (under lane) events
+recorded_under : (lane : ℕ) (events : List Event) → All (HasLanePacket lane) events → stream_events lane (flat_map canonical events) ≡ map (under lane) events
 recorded_under lane events have =
     let packets = of_packets lane events have in
-    let notes = one_notes (flat_map canonical events) (notes_of_stream (flat_map canonical events)) (map note.Event events) (packets_bytes events packets.0) (notes_are (flat_map canonical events)) (record { pieces = packets_of events; cut = cut_of_written events packets.0 packets.1; made = sym (notes_of_packets events) }) in
+    let notes = one_notes (flat_map canonical events) (notes_of_stream (flat_map canonical events)) (map note.Event events) (packets_bytes events packets.0) (notes_are (flat_map canonical events)) (record { pieces = packet_pieces events; cut = cut_of_written events packets.0 packets.1; made = sym (notes_of_packets events) }) in
     let whole = not_inside events (packets_bytes events packets.0) packets.0 packets.1 in
     ap (λ (l : List Note). recorded_events lane l ++ inside_events lane (ends_inside (flat_map canonical events))) notes
     ∙ ap (λ (inside : Bool). recorded_events lane (map note.Event events) ++ inside_events lane inside) whole
     ∙ append-nil (recorded_events lane (map note.Event events))
     ∙ events_under lane events have
 
-module _ (drawing : Drawing) (few : drawing.tests ≤ 1000000) where
+module _ (drawing : SelfTestWords) (few : drawing.tests ≤ 1000000) where
   output : ℕ → Output
-  output lane = output_of drawing.seed drawing.tests lane
+  output lane = drawn_output drawing.seed drawing.tests lane
 
-  have : (lane : ℕ) → lane < 64 → All (HasPacket lane) (events_of drawing.seed drawing.tests lane)
-  have lane small = lane_has_packets lane drawing.tests (state_of drawing.seed drawing.tests lane) small few
+  have : (lane : ℕ) → lane < 64 → All (HasLanePacket lane) (drawn_events drawing.seed drawing.tests lane)
+  have lane small = lane_has_packets lane drawing.tests (lane_state drawing.seed drawing.tests lane) small few
 
-  recorded_of : (lane : ℕ) → lane < 64 → events_for lane (output_of drawing.seed drawing.tests lane) ≡ lane_of drawing lane
-  recorded_of lane small = append-nil (stream_events lane (flat_map canonical (events_of drawing.seed drawing.tests lane))) ∙ recorded_under lane (events_of drawing.seed drawing.tests lane) (have lane small)
+  recorded_of : (lane : ℕ) → lane < 64 → events_for lane (drawn_output drawing.seed drawing.tests lane) ≡ lane_of drawing lane
+  recorded_of lane small = append-nil (stream_events lane (flat_map canonical (drawn_events drawing.seed drawing.tests lane))) ∙ recorded_under lane (drawn_events drawing.seed drawing.tests lane) (have lane small)
 
   -- ---- all of them
 
-  lists_are : (first count : ℕ) → first + count ≤ 64 → lists_from first (map (output_of drawing.seed drawing.tests) (range_with_len first count)) ≡ map (lane_of drawing) (range_with_len first count)
+  lists_are : (first count : ℕ) → first + count ≤ 64 → lists_from first (map (drawn_output drawing.seed drawing.tests) (range_with_len first count)) ≡ map (lane_of drawing) (range_with_len first count)
   lists_are first zero within = refl
   lists_are first (suc count) within =
-      let next : lists_from (suc first) (map (output_of drawing.seed drawing.tests) (range_with_len (first + 1) count)) ≡ map (lane_of drawing) (range_with_len (first + 1) count) =
-      ap (λ n. lists_from n (map (output_of drawing.seed drawing.tests) (range_with_len (first + 1) count))) (sym (add-one first)) ∙ lists_are (first + 1) count (omega (arith, within)) in
+      let next : lists_from (suc first) (map (drawn_output drawing.seed drawing.tests) (range_with_len (first + 1) count)) ≡ map (lane_of drawing) (range_with_len (first + 1) count) =
+      ap (λ n. lists_from n (map (drawn_output drawing.seed drawing.tests) (range_with_len (first + 1) count))) (sym (add-one first)) ∙ lists_are (first + 1) count (omega (arith, within)) in
       λ i. recorded_of first (omega (arith, within)) i ∷ next i
 
-  joined_are : (count : ℕ) → count ≤ 64 → joined (lists_from 0 (map (output_of drawing.seed drawing.tests) (range_with_len 0 count))) ≡ flat_map (lane_of drawing) (range_with_len 0 count)
+  joined_are : (count : ℕ) → count ≤ 64 → joined (lists_from 0 (map (drawn_output drawing.seed drawing.tests) (range_with_len 0 count))) ≡ flat_map (lane_of drawing) (range_with_len 0 count)
   joined_are count within = ap joined (lists_are 0 count (omega (arith, within))) ∙ flat_map-map (λ events. events) (lane_of drawing) (range_with_len 0 count)
 
 no_more : {X : Type 0} (xs : List X) → length xs ≤ 0 → xs ≡ []
@@ -148,12 +148,12 @@ few_parts lanes tests are =
 few_tests : (lanes tests : ℕ) → AreFew lanes tests → tests ≤ 1000000
 few_tests lanes tests are = omega (arith, mul-le 1 tests lanes tests are.some (le_refl tests), are.most)
 
-pub drawn_in_turn : (drawing : Drawing) (jobs : List Job) (s : Spawning) (rows : List Row) → are_few drawing.lanes drawing.tests ≡ true → s.outputs ≡ outputs_of drawing.seed drawing.lanes drawing.tests → length jobs ≡ drawing.lanes → RunsInTurn jobs s rows → rows ≡ rows_in_turn drawing
+pub drawn_in_turn : (drawing : SelfTestWords) (jobs : List Job) (s : Spawning) (rows : List Row) → are_few drawing.lanes drawing.tests ≡ true → s.outputs ≡ outputs_of drawing.seed drawing.lanes drawing.tests → length jobs ≡ drawing.lanes → RunsInTurn jobs s rows → rows ≡ rows_in_turn drawing
 drawn_in_turn drawing jobs s rows are outputs_are count runs =
     let parts = few_parts drawing.lanes drawing.tests are in
     let few = few_tests drawing.lanes drawing.tests parts in
     let outputs : List Output = outputs_of drawing.seed drawing.lanes drawing.tests in
-    let all : runs.outputs ≡ outputs = all_taken outputs runs.outputs runs.later (sym outputs_are ∙ runs.taken) (runs.count ∙ count ∙ sym (length-map-range_with_len (output_of drawing.seed drawing.tests) 0 drawing.lanes)) in
+    let all : runs.outputs ≡ outputs = all_taken outputs runs.outputs runs.later (sym outputs_are ∙ runs.taken) (runs.count ∙ count ∙ sym (length-map-range_with_len (drawn_output drawing.seed drawing.tests) 0 drawing.lanes)) in
     runs.in_turn
     ∙ ap (λ l. rows_of (joined (lists_from 0 l))) all
     ∙ ap rows_of (joined_are drawing few drawing.lanes parts.few)

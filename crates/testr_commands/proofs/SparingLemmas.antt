@@ -6,8 +6,8 @@ use Rattle.edge_io.specs.Steps.{Goes}
 use Rattle.run_shelf.specs.Looking.{base_calls}
 use Rattle.run_shelf.specs.Outcomes.{Surveys, TicksUpTo}
 use Rattle.run_shelf.specs.Repository.{Shows, IsRepository}
-use Rattle.run_shelf.specs.Sides.{side_name}
-use Rattle.run_shelf.specs.declared.side.Side.TheVariants.{Failing}
+use Rattle.run_shelf.specs.Sides.{cache_file_name}
+use Rattle.run_shelf.specs.declared.cache_file.CacheFile.TheVariants.{Failing}
 use Rattle.run_ledger.specs.Caches.{IsSound}
 use Rattle.testr_words.specs.Drawings.{drawing_of}
 use Rattle.testr_words.specs.Questions.{OfBytes}
@@ -22,7 +22,7 @@ use Rattle.testr_words.specs.declared.command.Question.{Question}
 use Rattle.testr_words.specs.declared.command.Question.TheVariants.{Last as AsksLast, Failing as AsksFailing}
 use Rattle.testr_words.specs.declared.command.Verb.{Verb}
 use Rattle.testr_words.specs.declared.command.Verb.TheVariants as verb
-use Rattle.testr_words.specs.declared.drawing.Drawing.{Drawing}
+use Rattle.testr_words.specs.declared.selftest_words.SelfTestWords.{SelfTestWords}
 use Rattle.testr_words.specs.declared.format.FormatKind.{FormatKind}
 use Rattle.testr_words.specs.declared.format.FormatKind.TheVariants.{Plain, Github}
 use Rattle.testr_words.specs.Suites.{load_options}
@@ -63,7 +63,7 @@ opened_spare kinds None (Some t) before middle now survey few spares = absurd su
 opened_spare kinds (Some s) None before middle now survey few spares = absurd survey
 opened_spare kinds (Some s) (Some t) before middle now survey few spares = λ sound covers ids holds runs shown.
     let same : t.disk.published ≡ s.disk.published = ap (λ (x : Folder). x.disk.published) survey.settled in
-    let file = ap (λ (files : Files). files (side_name Failing)) same ∙ holds.file in
+    let file = ap (λ (files : Files). files (cache_file_name Failing)) same ∙ holds.file in
     let reads = spares (subst IsSound (sym same) sound) covers ids (record { bytes = holds.bytes; file = file; form = holds.form }) runs (subst (λ (files : Files). Shows files runs) (sym same) shown) in
     omega (arith, few, reads)
 
@@ -80,7 +80,7 @@ no_load : (few : Bool) (c : Command) (list : Bool) → (if few then Some (load (
 no_load true c list is = cc
 no_load false c list is = cc
 
-no_drawn : (drawn : Option Drawing) (question : Question) → option_map selftest drawn ≡ Some (ask question) → ⊥
+no_drawn : (drawn : Option SelfTestWords) (question : Question) → option_map selftest drawn ≡ Some (ask question) → ⊥
 no_drawn None question is = cc
 no_drawn (Some drawing) question is = cc
 

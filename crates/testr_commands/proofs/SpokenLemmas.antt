@@ -12,26 +12,26 @@ use Rattle.std.proofs.lemmas.List.Elements.{All-nil}
 use Rattle.speaker.specs.Speaking.{Takes}
 use Rattle.speaker.proofs.TakesLemmas.{none_yet}
 use Rattle.suite_run.specs.Aloud.{Sinks, echoed}
-use Rattle.suite_run.specs.declared.ear.Echo.{Echo}
-use Rattle.suite_run.specs.declared.ear.Echo.TheVariants as echo
-use Rattle.suite_run.specs.declared.ear.Shown.{Shown}
+use Rattle.suite_run.specs.declared.run_listener.Echo.{Echo}
+use Rattle.suite_run.specs.declared.run_listener.Echo.TheVariants as echo
+use Rattle.suite_run.specs.declared.run_listener.Shown.{Shown}
 use Rattle.testr_words.specs.Drawings.{drawing_of}
 use Rattle.testr_words.specs.Tasks.{Task, load, run, selftest, task_of, task_with, quiet_of, live_for, live_of, streams_for, streams}
 use Rattle.testr_words.specs.declared.command.Command.{Command}
 use Rattle.testr_words.specs.declared.command.Verb.{Verb}
 use Rattle.testr_words.specs.declared.command.Verb.TheVariants as verb
-use Rattle.testr_words.specs.declared.drawing.Drawing.{Drawing}
-use Rattle.testr_words.specs.declared.live.LiveKind.{LiveKind}
-use Rattle.testr_words.specs.declared.live.LiveKind.TheVariants.{Nothing, Tests, Failures, Dots}
+use Rattle.testr_words.specs.declared.selftest_words.SelfTestWords.{SelfTestWords}
+use Rattle.testr_words.specs.declared.live_kind.LiveKind.{LiveKind}
+use Rattle.testr_words.specs.declared.live_kind.LiveKind.TheVariants.{Nothing, Tests, Failures, Dots}
 use Rattle.command_steps.specs.Outside.{Outside}
 use Rattle.command_steps.specs.Refusals.{refusal_text}
 use Rattle.command_steps.specs.Speaking.{SaysAloud}
 use Rattle.command_steps.specs.declared.answer.Refusal.{Refusal}
 use Rattle.command_steps.specs.declared.answer.Verdict.{Verdict}
-use Rattle.command_steps.specs.declared.speaking.Silenced.{Silenced}
+use Rattle.command_steps.specs.declared.live_lines.Silenced.{Silenced}
 use Rattle.testr_commands.specs.Program.{Answers, Tells}
 use Rattle.testr_commands.proofs.CallLemmas.{told_refused}
-use Rattle.testr_commands.specs.Spoken.{nowhere, without_errors, echo_of, outcome_text, HavePackets, Taking, TakesLines, TakesPackets, Behind, Says, lines_for, packets_for, Saying}
+use Rattle.testr_commands.specs.Spoken.{nowhere, without_errors, echo_of, outcome_text, HavePackets, Taking, TakesLines, TakesPackets, Behind, SaysLinesFirst, lines_for, packets_for, Saying}
 use Rattle.testr_words.specs.Suites.{load_options}
 
 -- ---- what holds behind the lines may be said otherwise, of parts that they do not touch
@@ -41,7 +41,7 @@ module _ (promises others : Outside → Outside → ℕ → Type 0) (b c a d : O
   behind_to true spoken same rest = (same ∙ rest.0, each nowhere nowhere rest.1)
   behind_to false spoken same rest = subst (λ (told : Seen (List ℕ)). others (record c { errors = spoken }) (record d { errors = told }) answer) (sym same) (each spoken a.errors rest)
 
-  says_to : (lines : Taking) → c.errors ≡ b.errors → d.errors ≡ a.errors → d.folder ≡ a.folder → Says lines promises b a answer → Says lines others c d answer
+  says_to : (lines : Taking) → c.errors ≡ b.errors → d.errors ≡ a.errors → d.folder ≡ a.folder → SaysLinesFirst lines promises b a answer → SaysLinesFirst lines others c d answer
   says_to lines before after folder says = record {
     spoken = says.spoken;
     failed = says.failed;
@@ -78,7 +78,7 @@ no_packets asked answer folder out other = (refl, refl)
 pub no_packets_as : (asked : Option Task) (answer : ℕ) (folder : Option Folder) (out : Seen (List ℕ)) (failed : Bool) → failed ≡ false → (answer ≤ 1 → ⊥) → packets_for asked answer folder out out failed
 no_packets_as asked answer folder out failed is other = subst (λ (f : Bool). packets_for asked answer folder out out f) (sym is) (no_packets asked answer folder out other)
 
-says_none : (lines : Taking) (promises : Outside → Outside → ℕ → Type 0) (before after : Outside) (answer : ℕ) → lines answer after.folder.told before.errors before.errors false → promises before after answer → Says lines promises before after answer
+says_none : (lines : Taking) (promises : Outside → Outside → ℕ → Type 0) (before after : Outside) (answer : ℕ) → lines answer after.folder.told before.errors before.errors false → promises before after answer → SaysLinesFirst lines promises before after answer
 says_none lines promises before after answer none rest = record { spoken = before.errors; failed = false; said = none; rest = rest }
 
 pub saying_none : (kind : LiveKind) (asked : Option Task) (promises : Outside → Outside → ℕ → Type 0) (before after : Outside) (answer : ℕ) → (answer ≤ 1 → ⊥) → promises before after answer → Saying kind asked promises before after answer
@@ -92,7 +92,7 @@ pub saying_plain : (kind : LiveKind) (asked : Option Task) (promises : Outside �
 saying_plain kind asked promises before after answer is rest = subst (λ (k : LiveKind). Saying k asked promises before after answer) (sym is) rest
 
 -- some are
-pub saying_lines : (kind : LiveKind) (asked : Option Task) (promises : Outside → Outside → ℕ → Type 0) (before after : Outside) (answer : ℕ) → (kind ≡ Nothing → ⊥) → Says (lines_for kind asked) promises before after answer → Saying kind asked promises before after answer
+pub saying_lines : (kind : LiveKind) (asked : Option Task) (promises : Outside → Outside → ℕ → Type 0) (before after : Outside) (answer : ℕ) → (kind ≡ Nothing → ⊥) → SaysLinesFirst (lines_for kind asked) promises before after answer → Saying kind asked promises before after answer
 saying_lines Nothing asked promises before after answer other says = absurd (other refl)
 saying_lines Tests asked promises before after answer other says = says
 saying_lines Failures asked promises before after answer other says = says
@@ -103,7 +103,7 @@ pub says_behind : (lines : Taking) (promises : Outside → Outside → ℕ → T
     → lines answer after.folder.told before.errors spoken failed
     → (failed ≡ false → promises (record before { errors = spoken }) after answer)
     → (failed ≡ true → (after.errors ≡ spoken) × promises (without_errors before) (without_errors after) answer)
-    → Says lines promises before after answer
+    → SaysLinesFirst lines promises before after answer
 says_behind lines promises before after answer spoken failed said well deaf = record { spoken = spoken; failed = failed; said = said; rest = by failed well deaf }
   where
     by : (f : Bool) → (f ≡ false → promises (record before { errors = spoken }) after answer) → (f ≡ true → (after.errors ≡ spoken) × promises (without_errors before) (without_errors after) answer) → Behind f spoken promises before after answer
@@ -195,7 +195,7 @@ run_says folder c before after answer is says = subst (λ (v : Verb). Saying (li
 pub run_streams : (folder : List ℕ) (c : Command) (answer : ℕ) (told : Option Folder) (before after : Seen (List ℕ)) (failed : Bool) → c.verb ≡ verb.Run → (c.subunit ≡ true → packets_for (task_with folder verb.Run c) answer told before after failed) → streams folder c ≡ true → packets_for (task_of folder c) answer told before after failed
 run_streams folder c answer told before after failed is prints = subst (λ (v : Verb). streams_for c.subunit (task_with folder v c) ≡ true → packets_for (task_with folder v c) answer told before after failed) (sym is) prints
 
-drawn_silent : (drawn : Option Drawing) (kind : LiveKind) → live_for kind (option_map selftest drawn) ≡ Nothing
+drawn_silent : (drawn : Option SelfTestWords) (kind : LiveKind) → live_for kind (option_map selftest drawn) ≡ Nothing
 drawn_silent None kind = refl
 drawn_silent (Some drawing) kind = refl
 
@@ -206,7 +206,7 @@ no_lines_of folder verb.Load c other not_load = absurd (not_load refl)
 no_lines_of folder verb.SelfTest c other not_load = drawn_silent (drawing_of c) c.live
 no_lines_of folder v c other not_load = refl
 
-drawn_whole : (drawn : Option Drawing) (stream : Bool) → streams_for stream (option_map selftest drawn) ≡ false
+drawn_whole : (drawn : Option SelfTestWords) (stream : Bool) → streams_for stream (option_map selftest drawn) ≡ false
 drawn_whole None stream = refl
 drawn_whole (Some drawing) stream = refl
 
@@ -219,7 +219,7 @@ no_stream_of folder v c other not_load = refl
 
 -- ---- where no program and no thread can be started
 
-quiet_drawn_silent : (drawn : Option Drawing) (kind : LiveKind) → live_for kind (quiet_of (option_map selftest drawn)) ≡ Nothing
+quiet_drawn_silent : (drawn : Option SelfTestWords) (kind : LiveKind) → live_for kind (quiet_of (option_map selftest drawn)) ≡ Nothing
 quiet_drawn_silent None kind = refl
 quiet_drawn_silent (Some drawing) kind = refl
 
@@ -228,7 +228,7 @@ quiet_no_lines folder verb.Load c not_load = absurd (not_load refl)
 quiet_no_lines folder verb.SelfTest c not_load = quiet_drawn_silent (drawing_of c) c.live
 quiet_no_lines folder v c not_load = refl
 
-quiet_drawn_whole : (drawn : Option Drawing) (stream : Bool) → streams_for stream (quiet_of (option_map selftest drawn)) ≡ false
+quiet_drawn_whole : (drawn : Option SelfTestWords) (stream : Bool) → streams_for stream (quiet_of (option_map selftest drawn)) ≡ false
 quiet_drawn_whole None stream = refl
 quiet_drawn_whole (Some drawing) stream = refl
 

@@ -7,29 +7,29 @@ use Rattle.run_shelf.specs.declared.faults.InitFault.{InitFault}
 use Rattle.run_shelf.specs.declared.faults.OpenFault.{OpenFault}
 use Rattle.run_shelf.specs.declared.found.Found.{Found}
 use Rattle.command_steps.specs.Outside.{Work, fed, filed, work_folder, work_fed, work_filed, work_out, Place, in_folder, SameCounts, RisesAt}
-use Rattle.command_steps.specs.Files.{RecordsSources, HasFilesCause, StopsAtFile, NoneFailed as NoFileFailed}
+use Rattle.command_steps.specs.Files.{RecordsSources, HasFilesCause, StopsAtFile, NoneFailedFiling as NoFileFailed}
 use Rattle.command_steps.proofs.FilesLemmas.{counts_then as files_counts}
 use Rattle.testr_commands.specs.Answer.{IsChildFault}
-use Rattle.command_steps.specs.Refusals.{place_of}
+use Rattle.command_steps.specs.Refusals.{fault_place_of}
 use Rattle.command_steps.specs.Steps.{Gives}
 use Rattle.command_steps.specs.Store.{Makes, Opens, Begins, Keeps}
 use Rattle.command_steps.specs.Recording.{Records, NoneFailed}
 use Rattle.command_steps.specs.Refreshing.{Refreshes}
 use Rattle.command_steps.specs.Reporting.{Prints}
-use Rattle.command_steps.specs.Told.{Finds}
+use Rattle.command_steps.specs.Told.{FindsAnswer}
 use Rattle.testr_words.specs.declared.command.Question.{Question}
 use Rattle.command_steps.specs.declared.store.RunsFault.{RunsFault}
 use Rattle.command_steps.specs.declared.store.KeepFault.{KeepFault}
-use Rattle.command_steps.specs.declared.recording.RecordFault.{RecordFault}
-use Rattle.command_steps.specs.declared.recording.RecordFault.TheVariants as record_fault
-use Rattle.command_steps.specs.declared.reporting.PrintFault.{PrintFault}
-use Rattle.command_steps.specs.declared.told.Told.{Told}
-use Rattle.command_steps.specs.declared.told.TellFault.{TellFault}
+use Rattle.command_steps.specs.declared.input_recorder.RecordFault.{RecordFault}
+use Rattle.command_steps.specs.declared.input_recorder.RecordFault.TheVariants as record_fault
+use Rattle.command_steps.specs.declared.run_report.PrintFault.{PrintFault}
+use Rattle.command_steps.specs.declared.question_answers.Told.{Told}
+use Rattle.command_steps.specs.declared.question_answers.TellFault.{TellFault}
 use Rattle.command_steps.specs.declared.answer.Verdict.{Verdict}
 use Rattle.command_steps.specs.declared.answer.Refusal.{Refusal}
 use Rattle.command_steps.specs.declared.answer.Refusal.TheVariants as refusal
 use Rattle.command_steps.proofs.Resting.{rests_same, rests_of_stays, rests_of_same, open_rests, begin_rests}
-use Rattle.testr_commands.proofs.RefusalLemmas.{IsNamed, init_place, open_place, tell_place, refresh_place}
+use Rattle.testr_commands.proofs.RefusalLemmas.{IsNoUsage, init_place, open_place, tell_place, refresh_place}
 use Rattle.testr_commands.proofs.ChainLemmas.{IsQuiet, IsRefused}
 
 module _ (a b : Work) where
@@ -60,11 +60,11 @@ module _ (a b : Work) where
   still_quiet same = by_folder (λ i. (same i).folder)
 
   -- a refusal whose place is this
-  pub placed : {Starts : Type 0} (r : Refusal) {place : Option Place} → IsNamed r → (IsChildFault (Err r) → Starts) → place_of r ≡ place → RisesAt place a b → IsRefused Starts r a b
+  pub placed : {Starts : Type 0} (r : Refusal) {place : Option Place} → IsNoUsage r → (IsChildFault (Err r) → Starts) → fault_place_of r ≡ place → RisesAt place a b → IsRefused Starts r a b
   placed r named child is rises = record { named = named; counts = subst (λ (p : Option Place). RisesAt p a b) (sym is) rises; child = child }
 
   -- a refusal behind which no part stands
-  pub still_refuses : {Starts : Type 0} (r : Refusal) → IsNamed r → (IsChildFault (Err r) → Starts) → place_of r ≡ None → b ≡ a → IsRefused Starts r a b
+  pub still_refuses : {Starts : Type 0} (r : Refusal) → IsNoUsage r → (IsChildFault (Err r) → Starts) → fault_place_of r ≡ None → b ≡ a → IsRefused Starts r a b
   still_refuses r named child is same = placed r named child is (still_counts same)
 
   pub runs_refuse : {Starts : Type 0} (fault : RunsFault) → b ≡ a → IsRefused Starts (refusal.Runs fault) a b
@@ -90,13 +90,13 @@ module _ (a b : Work) where
   pub open_refuses : {Starts : Type 0} (fault : OpenFault) → Opens a.folder b.folder (Err fault) → b ≡ work_folder.put a b.folder → IsRefused Starts (refusal.Open fault) a b
   open_refuses fault opens rest = placed (refusal.Open fault) tt (λ c. absurd c) (open_place Found fault) (folder_counts _ opens.count rest)
 
-  pub find_counts : (question : Question) (told : Told) → Finds question a.folder b.folder (Ok told) → b ≡ work_folder.put a b.folder → SameCounts a b
+  pub find_counts : (question : Question) (told : Told) → FindsAnswer question a.folder b.folder (Ok told) → b ≡ work_folder.put a b.folder → SameCounts a b
   find_counts question told finds rest = folder_same rest (finds.count.stands refl)
 
-  pub find_quiet : (question : Question) (result : Result Told TellFault) → Finds question a.folder b.folder result → IsQuiet a b
+  pub find_quiet : (question : Question) (result : Result Told TellFault) → FindsAnswer question a.folder b.folder result → IsQuiet a b
   find_quiet question result finds = rests_of_stays a.folder.told b.folder.told finds.same
 
-  pub find_refuses : {Starts : Type 0} (question : Question) (fault : TellFault) → Finds question a.folder b.folder (Err fault) → b ≡ work_folder.put a b.folder → IsRefused Starts (refusal.Tell fault) a b
+  pub find_refuses : {Starts : Type 0} (question : Question) (fault : TellFault) → FindsAnswer question a.folder b.folder (Err fault) → b ≡ work_folder.put a b.folder → IsRefused Starts (refusal.Tell fault) a b
   find_refuses question fault finds rest = placed (refusal.Tell fault) tt (λ c. absurd c) (tell_place fault) (folder_counts _ finds.count rest)
 
   pub begin_counts : (done : Unit {0}) → Begins a.folder b.folder (Ok done) → b ≡ work_folder.put a b.folder → SameCounts a b
@@ -136,10 +136,10 @@ module _ (a b : Work) where
   record_quiet [] result step = rests_of_same a.folder.told b.folder.told step.at.rests
   record_quiet (name ∷ names) result step = rests_of_same a.folder.told b.folder.told step.at.rests
 
-  recorded : {Starts : Type 0} (fault : RecordFault) → RisesAt (place_of (refusal.Record fault)) a b → IsRefused Starts (refusal.Record fault) a b
+  recorded : {Starts : Type 0} (fault : RecordFault) → RisesAt (fault_place_of (refusal.Record fault)) a b → IsRefused Starts (refusal.Record fault) a b
   recorded fault rises = record { named = tt; counts = rises; child = λ c. absurd c }
 
-  input_rises : (fault : RecordFault) → Records (fed a.folder a.input) (fed b.folder b.input) (Err fault) → b ≡ work_fed.put a (fed b.folder b.input) → RisesAt (place_of (refusal.Record fault)) a b
+  input_rises : (fault : RecordFault) → Records (fed a.folder a.input) (fed b.folder b.input) (Err fault) → b ≡ work_fed.put a (fed b.folder b.input) → RisesAt (fault_place_of (refusal.Record fault)) a b
   input_rises (record_fault.Shelf call) records rest = (records.refused.0, (λ i. (rest i).site.faults), (λ i. (rest i).spawner.faults), records.refused.1, (λ i. (rest i).out.faults))
   input_rises record_fault.Input records rest = (records.refused.0, records.refused.1, (λ i. (rest i).site.faults), (λ i. (rest i).spawner.faults), (λ i. (rest i).out.faults))
   input_rises record_fault.TooLong records rest = fed_same rest records.refused.1
@@ -149,7 +149,7 @@ module _ (a b : Work) where
   input_rises record_fault.NoMemory records rest = fed_same rest records.refused.0
 
   module _ (names : List (List ℕ)) (rest : b ≡ work_filed.put a (filed b.folder b.site)) where
-    file_rises : (fault : RecordFault) → StopsAtFile names (filed a.folder a.site) (filed b.folder b.site) fault → RisesAt (place_of (refusal.Record fault)) a b
+    file_rises : (fault : RecordFault) → StopsAtFile names (filed a.folder a.site) (filed b.folder b.site) fault → RisesAt (fault_place_of (refusal.Record fault)) a b
     file_rises (record_fault.Shelf call) stop = (subst (λ (n : ℕ). Rose n b.folder.faults) stop.recorded.counts.folder stop.cause.0, stop.cause.1 ∙ stop.recorded.counts.site, (λ i. (rest i).spawner.faults), (λ i. (rest i).input.faults), (λ i. (rest i).out.faults))
     file_rises record_fault.Input stop = absurd stop.cause
     file_rises record_fault.TooLong stop = absurd stop.cause
@@ -158,9 +158,9 @@ module _ (a b : Work) where
     file_rises (record_fault.FileTooLong name) stop = filed_same rest (files_counts _ _ _ stop.recorded.counts stop.cause.2)
     file_rises record_fault.NoMemory stop = filed_same rest (files_counts _ _ _ stop.recorded.counts stop.cause)
 
-    files_rise : (fault : RecordFault) → HasFilesCause names (filed a.folder a.site) (filed b.folder b.site) fault → RisesAt (place_of (refusal.Record fault)) a b
+    files_rise : (fault : RecordFault) → HasFilesCause names (filed a.folder a.site) (filed b.folder b.site) fault → RisesAt (fault_place_of (refusal.Record fault)) a b
     files_rise fault (inl stop) = file_rises fault stop
-    files_rise fault (inr (is, none)) = subst (λ (f : RecordFault). RisesAt (place_of (refusal.Record f)) a b) (sym is) (filed_same rest none)
+    files_rise fault (inr (is, none)) = subst (λ (f : RecordFault). RisesAt (fault_place_of (refusal.Record f)) a b) (sym is) (filed_same rest none)
 
   pub record_refuses : {Starts : Type 0} (names : List (List ℕ)) (fault : RecordFault) → RecordsSources names a b (Err fault) → IsRefused Starts (refusal.Record fault) a b
   record_refuses [] fault step = recorded fault (input_rises fault step.at step.rest)

@@ -19,26 +19,26 @@ use Rattle.suite_plan.specs.Patterns.{Compiles, IsBadRegex}
 use Rattle.suite_plan.specs.Texts.{most_text}
 use Rattle.suite_plan.specs.declared.conf_file.ConfRefusal.{ConfRefusal}
 use Rattle.suite_plan.specs.declared.conf_file.ConfRefusal.TheVariants as conf
-use Rattle.suite_plan.specs.declared.listing.ListingRefusal.{ListingRefusal}
-use Rattle.suite_plan.specs.declared.listing.ListingRefusal.TheVariants as listing
+use Rattle.suite_plan.specs.declared.test_listing.ListingRefusal.{ListingRefusal}
+use Rattle.suite_plan.specs.declared.test_listing.ListingRefusal.TheVariants as listing
 use Rattle.suite_plan.specs.declared.patterns.PatternRefusal.{PatternRefusal}
 use Rattle.suite_plan.specs.declared.patterns.PatternRefusal.TheVariants as pattern
 use Rattle.testr_conf.specs.Jobs.{list_job_of}
 use Rattle.testr_conf.specs.Settings.{Settings}
 use Rattle.testr_commands.specs.Answer.{IsChildFault}
-use Rattle.command_steps.specs.Refusals.{refusal_code}
+use Rattle.command_steps.specs.Refusals.{refusal_exit_status}
 use Rattle.command_steps.specs.Outside.{Work}
 use Rattle.testr_commands.specs.RunSuite.{ListsBy, ListsSuite}
 use Rattle.command_steps.specs.Steps.{stops, goes_on}
 use Rattle.testr_commands.specs.SuiteProgram.{EndsWell, CanList}
-use Rattle.command_steps.specs.SuiteTexts.{conf_code, pattern_code}
+use Rattle.command_steps.specs.SuiteTexts.{conf_exit_status, pattern_exit_status}
 use Rattle.command_steps.specs.declared.answer.Refusal.{Refusal}
 use Rattle.command_steps.specs.declared.answer.Refusal.TheVariants as refusal
 use Rattle.testr_commands.proofs.ChainLemmas.{gives_not}
 
 -- it is of no cause that lies in what the command is given
 abbrev pub NoCause : Refusal → Type 0
-NoCause r = (refusal_code r ≡ 3 → ⊥) × (IsChildFault (Err r) → ⊥)
+NoCause r = (refusal_exit_status r ≡ 3 → ⊥) × (IsChildFault (Err r) → ⊥)
 
 pub same_cause : {A : Type 0} (named r : Refusal) → ◌≡◌ {A = Result A Refusal} (Err r) (Err named) → NoCause named → NoCause r
 same_cause named r is none =
@@ -81,7 +81,7 @@ not_refused said settings refusal gives refused =
     let both : ◌≡◌ {A = Result Settings ConfRefusal} (Ok settings) (Err refusal) = sym gives ∙ refused in
     cc
 
-conf_cause : (said : Result Settings ConfRefusal) (settings : Settings) (fault : ConfRefusal) → said ≡ Ok settings → HasConfCause said fault → conf_code fault ≡ 3 → ⊥
+conf_cause : (said : Result Settings ConfRefusal) (settings : Settings) (fault : ConfRefusal) → said ≡ Ok settings → HasConfCause said fault → conf_exit_status fault ≡ 3 → ⊥
 conf_cause said settings conf.Site gives cause three = omega arith
 conf_cause said settings conf.Absent gives cause three = not_refused said settings _ gives cause
 conf_cause said settings (conf.Bad file why) gives cause three = not_refused said settings _ gives cause
@@ -106,7 +106,7 @@ pub regex_never : (regex : Option (List ℕ)) (text : List ℕ) → IfSome regex
 regex_never None text good bad = bad
 regex_never (Some regex) text good bad = good_not_bad regex good bad.1
 
-pattern_cause : (including excluding : Ids) (regex : Option (List ℕ)) (fault : PatternRefusal) → All IsPattern (including ++ excluding) → IfSome regex IsPattern → Compiles including excluding regex (Err fault) → pattern_code fault ≡ 3 → ⊥
+pattern_cause : (including excluding : Ids) (regex : Option (List ℕ)) (fault : PatternRefusal) → All IsPattern (including ++ excluding) → IfSome regex IsPattern → Compiles including excluding regex (Err fault) → pattern_exit_status fault ≡ 3 → ⊥
 pattern_cause including excluding regex (pattern.Bad given) good good_regex (inl bad) three = good_not_bad _ (good bad.index [] bad.first.in_range) bad.first.bad
 pattern_cause including excluding regex (pattern.Bad given) good good_regex (inr (all, bad)) three = regex_never regex given.now good_regex bad
 pattern_cause including excluding regex pattern.NoMemory good good_regex compiles three = omega arith

@@ -37,18 +37,18 @@ use Rattle.command_steps.specs.Steps.{Step, Then, Gives, At}
 use Rattle.testr_commands.specs.Searches.{SearchesAll}
 use Rattle.testr_commands.specs.SuiteProgram.{ListsAll, RunsAll}
 use Rattle.testr_words.specs.Suites.{ListOptions, RunOptions, is_partial}
-use Rattle.command_steps.specs.Verdicts.{verdict_code}
+use Rattle.command_steps.specs.Verdicts.{verdict_exit_status}
 use Rattle.command_steps.specs.declared.answer.Refusal.{Refusal}
 use Rattle.command_steps.specs.declared.answer.Refusal.TheVariants as refusal
 use Rattle.command_steps.specs.declared.answer.Verdict.{Verdict}
-use Rattle.command_steps.specs.declared.selecting.Selected.{Selected}
+use Rattle.command_steps.specs.declared.test_selection.Selected.{Selected}
 use Rattle.suite_run.proofs.NoneLostLemmas.{none_lost}
 use Rattle.testr_commands.proofs.ChainLemmas.{then_did}
 use Rattle.testr_commands.proofs.DoneLaws.{appended, same_verdict, status_is, kept_through}
 use Rattle.command_steps.proofs.SoundLemmas.{adds_run}
 use Rattle.testr_commands.proofs.MergeLaws.{AreOfOutputs, have_outputs, of_outputs}
 use Rattle.testr_commands.proofs.PacketBytes.{packets_bytes}
-use Rattle.command_steps.proofs.Resting.{Rests, goes_ends, stays_is}
+use Rattle.command_steps.proofs.Resting.{KeepsReads, goes_ends, stays_is}
 use Rattle.testr_commands.proofs.FurtherLaws.{gives_further}
 use Rattle.testr_commands.proofs.FindLemmas.{TellsEvents, tells_behind, causes_still, causes_input, causes_did, all_some}
 use Rattle.testr_commands.proofs.KeepingLaws.{keeps_moves}
@@ -60,7 +60,7 @@ use Rattle.testr_words.specs.declared.format.FormatKind.{FormatKind}
 
 -- ---- `list-tests`
 
-pub list_did : (options : ListOptions) (a b : Work) (v : Verdict) → ListsSuite options a b (Ok v) → ListsAll options a b (verdict_code v)
+pub list_did : (options : ListOptions) (a b : Work) (v : Verdict) → ListsSuite options a b (Ok v) → ListsAll options a b (verdict_exit_status v)
 list_did options a b v lists =
     let conf = then_did v lists in
     let compiled = then_did v conf.next in
@@ -80,7 +80,7 @@ list_did options a b v lists =
       ids = listed.value;
       listed = goes_ends (ListsSo conf.value listed.value) begun ended listed.done.at.listed;
       printed = appended {z = printed.between.out.told} out (λ i. (sym gives.same i).out.told) text.done.says.lines printed.done.at.whole;
-      status = ap verdict_code (same_verdict gives.answer);
+      status = ap verdict_exit_status (same_verdict gives.answer);
       folder = (λ i. (gives.same i).folder) ∙ (λ i. (printed.done.rest i).folder) ∙ (λ i. (text.done.same i).folder) ∙ (λ i. (listed.done.rest i).folder) ∙ (λ i. (further.done.rest i).folder) ∙ (λ i. (compiled.done.same i).folder) ∙ (λ i. (conf.done.rest i).folder);
       input = (λ i. (gives.same i).input) ∙ (λ i. (printed.done.rest i).input) ∙ (λ i. (text.done.same i).input) ∙ (λ i. (listed.done.rest i).input) ∙ (λ i. (further.done.rest i).input) ∙ (λ i. (compiled.done.same i).input) ∙ (λ i. (conf.done.rest i).input);
     }
@@ -111,13 +111,13 @@ where_told None X Y f is = tt
 where_told (Some s) X Y f is = f is
 
 -- the folder, the input and the output are as before, and a spawner that is told stays told
-pub record Leaves (a b : Work) : Type 0 where
+pub record LeavesAsBefore (a b : Work) : Type 0 where
   pub folder : b.folder.told ≡ a.folder.told
   input : b.input ≡ a.input
   out : b.out.told ≡ a.out.told
   pub told : StaysTold a.spawner.told b.spawner.told
 
-leaves_same : (a b : Work) → b ≡ a → Leaves a b
+leaves_same : (a b : Work) → b ≡ a → LeavesAsBefore a b
 leaves_same a b same = record {
   folder = λ i. (same i).folder.told;
   input = λ i. (same i).input;
@@ -125,7 +125,7 @@ leaves_same a b same = record {
   told = same_told a.spawner.told b.spawner.told (λ i. (same i).spawner.told);
 }
 
-pub leaves_then : (a m b : Work) → Leaves a m → Leaves m b → Leaves a b
+pub leaves_then : (a m b : Work) → LeavesAsBefore a m → LeavesAsBefore m b → LeavesAsBefore a b
 leaves_then a m b first second = record {
   folder = second.folder ∙ first.folder;
   input = second.input ∙ first.input;
@@ -133,7 +133,7 @@ leaves_then a m b first second = record {
   told = goes_then a.spawner.told m.spawner.told b.spawner.told (λ s t. ⊤) (λ s t. ⊤) (λ s t. ⊤) first.told second.told (λ s m t p q. tt);
 }
 
-leaves_site : (a b : Work) → b ≡ work_site.put a b.site → Leaves a b
+leaves_site : (a b : Work) → b ≡ work_site.put a b.site → LeavesAsBefore a b
 leaves_site a b rest = record {
   folder = λ i. (rest i).folder.told;
   input = λ i. (rest i).input;
@@ -141,7 +141,7 @@ leaves_site a b rest = record {
   told = same_told a.spawner.told b.spawner.told (λ i. (rest i).spawner.told);
 }
 
-leaves_folder : (a b : Work) → b ≡ work_folder.put a b.folder → b.folder.told ≡ a.folder.told → Leaves a b
+leaves_folder : (a b : Work) → b ≡ work_folder.put a b.folder → b.folder.told ≡ a.folder.told → LeavesAsBefore a b
 leaves_folder a b rest same = record {
   folder = same;
   input = λ i. (rest i).input;
@@ -149,7 +149,7 @@ leaves_folder a b rest same = record {
   told = same_told a.spawner.told b.spawner.told (λ i. (rest i).spawner.told);
 }
 
-leaves_spawner : (a b : Work) → b ≡ work_spawner.put a b.spawner → StaysTold a.spawner.told b.spawner.told → Leaves a b
+leaves_spawner : (a b : Work) → b ≡ work_spawner.put a b.spawner → StaysTold a.spawner.told b.spawner.told → LeavesAsBefore a b
 leaves_spawner a b rest told = record {
   folder = λ i. (rest i).folder.told;
   input = λ i. (rest i).input;
@@ -168,20 +168,20 @@ listing_told settings asked a b ids (not_asked is answer same) = same_told a.tol
 listing_told settings asked a b ids (did x value is answer done) = goes_weaker a.told b.told (ListsSo settings value) (λ s t. ⊤) done.listed (λ s t lists. tt)
 listing_told settings asked a b ids (refused x fault is answer done) = cc
 
-gives_leave : {A : Type 0} {value given : A} (a b : Work) → Gives {R = Refusal} value a b (Ok given) → Leaves a b
+gives_leave : {A : Type 0} {value given : A} (a b : Work) → Gives {R = Refusal} value a b (Ok given) → LeavesAsBefore a b
 gives_leave a b gives = leaves_same a b gives.same
 
-table_leaves : (a b : Work) (number : ℕ) → Then {R = Refusal} refusal.Table (At work_site CountsProcessors) (λ given. Gives given) a b (Ok number) → Leaves a b
+table_leaves : (a b : Work) (number : ℕ) → Then {R = Refusal} refusal.Table (At work_site CountsProcessors) (λ given. Gives given) a b (Ok number) → LeavesAsBefore a b
 table_leaves a b number counts =
     let table = then_did number counts in
     leaves_then a table.between b (leaves_site a table.between table.done.rest) (gives_leave table.between b table.next)
 
-called_leaves : (called : Option ℕ) (a b : Work) (number : ℕ) → UsesCalled called a b (Ok number) → Leaves a b
+called_leaves : (called : Option ℕ) (a b : Work) (number : ℕ) → UsesCalled called a b (Ok number) → LeavesAsBefore a b
 called_leaves (Some (suc less)) a b number gives = gives_leave a b gives
 called_leaves (Some zero) a b number table = table_leaves a b number table
 called_leaves None a b number table = table_leaves a b number table
 
-workers_leave : (settings : Settings) (parallel : Bool) (asked : ℕ) (a b : Work) (number : ℕ) → CountsWorkers settings parallel asked a b (Ok number) → Leaves a b
+workers_leave : (settings : Settings) (parallel : Bool) (asked : ℕ) (a b : Work) (number : ℕ) → CountsWorkers settings parallel asked a b (Ok number) → LeavesAsBefore a b
 workers_leave settings false asked a b number gives = gives_leave a b gives
 workers_leave settings true (suc less) a b number gives = gives_leave a b gives
 workers_leave settings true zero a b number calls =
@@ -189,7 +189,7 @@ workers_leave settings true zero a b number calls =
     let told : StaysTold a.spawner.told called.between.spawner.told = goes_weaker a.spawner.told called.between.spawner.told (CallsSo settings called.value) (λ s t. ⊤) called.done.at.told (λ s t calls. tt) in
     leaves_then a called.between b (leaves_spawner a called.between called.done.rest told) (called_leaves called.value called.between b number called.next)
 
-pub select_leaves : (settings : Settings) (options : RunOptions) (a b : Work) (selected : Selected) → Selects settings options a b (Ok selected) → Leaves a b
+pub select_leaves : (settings : Settings) (options : RunOptions) (a b : Work) (selected : Selected) → Selects settings options a b (Ok selected) → LeavesAsBefore a b
 select_leaves settings options a b selected selects =
     let listed = then_did selected selects in
     let further = then_did selected listed.next in
@@ -205,7 +205,7 @@ select_leaves settings options a b selected selects =
     let to_end = leaves_same listing.between b (chosen.next.same ∙ chosen.done.same) in
     leaves_then a listed.between b to_listed (leaves_then listed.between further.between b to_further (leaves_then further.between failing.between b to_failing (leaves_then failing.between counted.between b to_counted (leaves_then counted.between listing.between b to_listing to_end))))
 
-pub plan_leaves : (settings : Settings) (asked : Bool) (selected : Selected) (a b : Work) (plan : Planned) → Plans settings asked selected a b (Ok plan) → Leaves a b
+pub plan_leaves : (settings : Settings) (asked : Bool) (selected : Selected) (a b : Work) (plan : Planned) → Plans settings asked selected a b (Ok plan) → LeavesAsBefore a b
 plan_leaves settings asked selected a b plan plans =
     let timed = then_did plan plans in
     let divided = then_did plan timed.next in
@@ -302,7 +302,7 @@ rows_told partial format number tags events report P (Some s) (Some t) kept says
 pub seen_same : {S : Type 0} (a b : Seen S) → b.told ≡ a.told → b.faults ≡ a.faults → b ≡ a
 seen_same a b told faults = λ i. record { told = told i; faults = faults i }
 
-pub run_did : (options : RunOptions) (a b : Work) (v : Verdict) → RunsSuite options a b (Ok v) → RunsAll options a b (verdict_code v)
+pub run_did : (options : RunOptions) (a b : Work) (v : Verdict) → RunsSuite options a b (Ok v) → RunsAll options a b (verdict_exit_status v)
 run_did options a b v runs =
     let conf = then_did v runs in
     let found = then_did v conf.next in
@@ -329,7 +329,7 @@ run_did options a b v runs =
     let site : conf.between.site ≡ a.site = seen_same a.site conf.between.site conf.done.at.same (conf.done.at.count.stands refl) in
     let first : conf.between ≡ a = conf.done.rest ∙ ap (work_site.put a) site in
     let opened : begin ≡ work_folder.put a begin.folder = calm ∙ found.done.rest ∙ (λ i. work_folder.put (first i) found.between.folder) ∙ (λ i. work_folder.put a (sym calm i).folder) in
-    let quiet : Goes a.folder.told begin.folder.told Rests = goes_ends Rests (λ i. (first i).folder.told) (λ i. (sym calm i).folder.told) (open_quiet conf.between found.between (Ok found.value) found.done.at) in
+    let quiet : Goes a.folder.told begin.folder.told KeepsReads = goes_ends KeepsReads (λ i. (first i).folder.told) (λ i. (sym calm i).folder.told) (open_quiet conf.between found.between (Ok found.value) found.done.at) in
     let kept : Goes begin.folder.told worked.between.folder.told (KeepsRunAndCaches (length kinds) run) = goes_ends (KeepsRunAndCaches (length kinds) run) before.folder refl work.kept in
     let keeps : Goes begin.folder.told b.folder.told (KeepsRunAndCaches (length kinds) run) = goes_ends (KeepsRunAndCaches (length kinds) run) refl (sym (found_folder ∙ tell.folder)) kept in
     let stored : Goes a.folder.told b.folder.told (KeepsRunAndCaches (length kinds) run) = kept_through (length kinds) run a.folder.told begin.folder.told b.folder.told quiet keeps in
@@ -339,7 +339,7 @@ run_did options a b v runs =
     let workers : IfSome a.spawner.told (λ _. AreOfOutputs work.events planned.value.asked work.outputs) = subst (λ (o : Option Spawning). IfSome o (λ _. AreOfOutputs work.events planned.value.asked work.outputs)) (λ i. (opened i).spawner.told) workers_here in
     let out : worked.between.out.told ≡ a.out.told = work.out ∙ before.out ∙ (λ i. (opened i).out.told) in
     let tells : Goes a.folder.told here.folder.told (λ s t. TellsEvents (length kinds) work.events t) =
-    goes_ends (λ s t. TellsEvents (length kinds) work.events t) refl (sym tell.folder) (tells_behind partial (length kinds) work.events a.folder.told begin.folder.told worked.between.folder.told Rests work.are_events work.fit quiet at_rest kept) in
+    goes_ends (λ s t. TellsEvents (length kinds) work.events t) refl (sym tell.folder) (tells_behind partial (length kinds) work.events a.folder.told begin.folder.told worked.between.folder.told KeepsReads work.are_events work.fit quiet at_rest kept) in
     let causes = causes_did conf.value (length kinds) work.events here there finds.value options.find_causes worked.value a.folder.told work.rows_are tells finds.done in
     let searched : SearchesAll options.find_causes conf.value work.events causes.lines a.folder.told worked.between.spawner.told b.spawner.told =
     subst (λ (o : Option Spawning). SearchesAll options.find_causes conf.value work.events causes.lines a.folder.told o b.spawner.told) tell.spawner
@@ -357,7 +357,7 @@ run_did options a b v runs =
           conf = conf.done.at.conf;
           opened = begin;
           opened_is = opened;
-          opened_files = goes_weaker a.folder.told begin.folder.told Rests KeepsFiles quiet (λ s t rests. rests.files);
+          opened_files = goes_weaker a.folder.told begin.folder.told KeepsReads KeepsFiles quiet (λ s t rests. rests.files);
           selected = selected.value;
           selecting = selected.between;
           selects = selected.done;
@@ -381,6 +381,6 @@ run_did options a b v runs =
       printed = rows_told partial options.format (length kinds) conf.value.filter_tags work.events tell.report (λ text. Appends a.out.told b.out.told (text ++ causes.lines)) a.folder.told b.folder.told stored says all_out;
       found = searched;
       none_lost = where_told a.spawner.told (AreOfOutputs work.events planned.value.asked work.outputs) _ (λ are. none_lost work.events planned.value.asked work.outputs (short_ids conf.value options.find_causes selected.value selected.between planned.between planned.value planned.done) are.merged) workers;
-      status = ap verdict_code (same_verdict gives.answer ∙ tell.verdict ∙ says.verdict) ∙ status_is (rows_of work.events);
+      status = ap verdict_exit_status (same_verdict gives.answer ∙ tell.verdict ∙ says.verdict) ∙ status_is (rows_of work.events);
       input = (λ i. (gives.same i).input) ∙ causes_input options.find_causes conf.value (length kinds) worked.value here there (Ok finds.value) finds.done ∙ tell.input ∙ work.input ∙ before.input ∙ (λ i. (opened i).input);
     }

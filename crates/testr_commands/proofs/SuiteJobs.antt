@@ -7,21 +7,21 @@ use Rattle.testr_conf.specs.Jobs.{run_job_of}
 use Rattle.testr_conf.specs.Settings.{Settings}
 use Rattle.testr_conf.specs.declared.fault.JobFault.{JobFault}
 use Rattle.partition_times.specs.Names.{group_of, members, group_names}
-use Rattle.partition_times.specs.Shares.{Ids, Times, given, given_to_least, given_in_turn, timed_groups, untimed_groups, shares_of}
+use Rattle.partition_times.specs.Shares.{Ids, Times, with_group, given_to_least, given_in_turn, timed_groups, untimed_groups, shares_of}
 use Rattle.partition_times.proofs.ShareLemmas.{length-given, length-to_least}
 use Rattle.suite_plan.specs.LaneJobs.{job_before, jobs_from, lane_jobs}
 use Rattle.suite_plan.specs.Processors.{IsInRange}
 use Rattle.suite_plan.specs.Sharing.{dealt_among, ids_of_shard, shares_for}
-use Rattle.suite_plan.specs.declared.sharing.TheConstants.{MOST_WORKERS}
+use Rattle.suite_plan.specs.declared.worker_shares.TheConstants.{MOST_WORKERS}
 use Rattle.suite_plan.proofs.ShareLemmas.{few_kept}
 use Rattle.command_steps.specs.Outside.{Work}
 use Rattle.suite_run.specs.NoneLost.{AreAllShort}
 use Rattle.command_steps.specs.Selecting.{UsesCalled, UsesAsked, CountsWorkers, Selects, shard_times, worker_times, shares_of_ids, Planned, Plans}
-use Rattle.command_steps.specs.Selecting.{Times as KnownTimes}
+use Rattle.command_steps.specs.Selecting.{TimesById as KnownTimes}
 use Rattle.command_steps.specs.Steps.{Gives}
 use Rattle.testr_words.specs.Suites.{RunOptions}
 use Rattle.command_steps.specs.declared.answer.Refusal.{Refusal}
-use Rattle.command_steps.specs.declared.selecting.Selected.{Selected}
+use Rattle.command_steps.specs.declared.test_selection.Selected.{Selected}
 use Rattle.testr_commands.proofs.ChainLemmas.{then_did}
 
 -- ---- shares
@@ -29,7 +29,7 @@ use Rattle.testr_commands.proofs.ChainLemmas.{then_did}
 length-in_turn : (shares : List Ids) (turn : ℕ) (groups : List Ids) → length (given_in_turn shares turn groups) ≡ length shares
 length-in_turn shares turn [] = refl
 length-in_turn shares turn (group ∷ groups) =
-    length-in_turn (given shares (turn % length shares) group) (turn + 1) groups ∙ length-given shares (turn % length shares) group
+    length-in_turn (with_group shares (turn % length shares) group) (turn + 1) groups ∙ length-given shares (turn % length shares) group
 
 -- there are as many shares as workers
 length-shares : (times : Times) (name_of : List ℕ → List ℕ) (ids : Ids) (workers : ℕ) → length (shares_of times name_of ids workers) ≡ workers

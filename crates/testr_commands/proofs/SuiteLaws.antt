@@ -1,6 +1,6 @@
 -- What is true where `run`, `list-tests` and `selftest` refuse, and at each of their exits, from their chains: one line a
 -- step, in the chains' order.
-use Rattle.command_steps.specs.declared.planning.LongId.{LongId}
+use Rattle.command_steps.specs.declared.work_plan.LongId.{LongId}
 use Rattle.std.proofs.Common.{◌≡◌, ℕ, zero, suc, Bool, true, false, cond, Option, None, Some, Ok, Err, List, [], ◌∷◌, refl, subst}
 use Rattle.std.specs.Prelude.{⊤}
 use Rattle.edge_io.specs.Causes.{RisesExactlyIf}
@@ -10,24 +10,24 @@ use Rattle.outcome_fold.specs.declared.row.Row.{Row}
 use Rattle.sub_number.specs.declared.memory.NoMemory.{NoMemory}
 use Rattle.isolation_bisect.specs.declared.found.Found.{Found}
 use Rattle.suite_causes.specs.Searching.{Searches}
-use Rattle.suite_causes.specs.declared.searching.SearchFault.{SearchFault}
+use Rattle.suite_causes.specs.declared.cause_search.SearchFault.{SearchFault}
 use Rattle.suite_causes.specs.declared.suspects.Suspect.{Suspect}
 use Rattle.suite_plan.specs.Calling.{CallsOut}
 use Rattle.suite_plan.specs.ConfFile.{ReadsConf}
 use Rattle.suite_plan.specs.Listing.{ListsTests}
 use Rattle.suite_plan.specs.LoadList.{ReadsLoadList}
 use Rattle.suite_plan.specs.Processors.{CountsProcessors}
-use Rattle.suite_plan.specs.declared.calling.CallRefusal.{CallRefusal}
+use Rattle.suite_plan.specs.declared.count_command.CallRefusal.{CallRefusal}
 use Rattle.suite_plan.specs.declared.conf_file.ConfRefusal.{ConfRefusal}
-use Rattle.suite_plan.specs.declared.listing.ListingRefusal.{ListingRefusal}
+use Rattle.suite_plan.specs.declared.test_listing.ListingRefusal.{ListingRefusal}
 use Rattle.suite_plan.specs.declared.load_list.ListRefusal.{ListRefusal}
-use Rattle.command_steps.specs.declared.selecting.FurtherRefusal.{FurtherRefusal}
+use Rattle.command_steps.specs.declared.test_selection.FurtherRefusal.{FurtherRefusal}
 use Rattle.suite_plan.specs.declared.patterns.PatternRefusal.{PatternRefusal}
 use Rattle.suite_plan.specs.declared.processors.TableRefusal.{TableRefusal}
 use Rattle.suite_run.specs.Recording.{RecordsLanes}
 use Rattle.suite_run.specs.Starting.{StartsLanes}
-use Rattle.suite_run.specs.declared.recording.LanesRefusal.{LanesRefusal}
-use Rattle.suite_run.specs.declared.starting.StartRefusal.{StartRefusal}
+use Rattle.suite_run.specs.declared.lane_recorder.LanesRefusal.{LanesRefusal}
+use Rattle.suite_run.specs.declared.lane_starter.StartRefusal.{StartRefusal}
 use Rattle.testr_conf.specs.Settings.{Settings}
 use Rattle.testr_conf.specs.declared.fault.JobFault.{JobFault}
 use Rattle.worker_lane.specs.declared.lot.Lot.{Lot}
@@ -43,10 +43,10 @@ use Rattle.testr_words.specs.Suites.{ListOptions, Wanted, RunOptions, Project}
 use Rattle.command_steps.specs.Told.{fault_fails}
 use Rattle.command_steps.specs.declared.answer.Refusal.{Refusal}
 use Rattle.command_steps.specs.declared.answer.Refusal.TheVariants as refusal
-use Rattle.testr_words.specs.declared.drawing.Drawing.{Drawing}
-use Rattle.command_steps.specs.declared.selecting.Selected.{Selected}
-use Rattle.command_steps.specs.declared.told.TellFault.{TellFault}
-use Rattle.testr_commands.proofs.ChainLemmas.{IsRefused, Counts, Refuses, then_counts, then_refuses, gives_refuses}
+use Rattle.testr_words.specs.declared.selftest_words.SelfTestWords.{SelfTestWords}
+use Rattle.command_steps.specs.declared.test_selection.Selected.{Selected}
+use Rattle.command_steps.specs.declared.question_answers.TellFault.{TellFault}
+use Rattle.testr_commands.proofs.ChainLemmas.{IsRefused, KeepsCounts, RefusesAs, then_counts, then_refuses, gives_refuses}
 use Rattle.testr_commands.proofs.FurtherLaws.{further_stands, further_rises, further_named, further_place}
 use Rattle.testr_commands.proofs.RefusalLemmas.{tell_place, ran_place, search_place, lanes_place, conf_place, list_place, table_place, call_place, listing_place, start_place}
 use Rattle.testr_commands.proofs.StepLaws.{folder_same, folder_counts, placed, still_counts, still_refuses, runs_refuse, memory_refuses, open_counts, open_refuses, begin_counts, begin_refuses, keep_counts, keep_refuses, refresh_counts, refresh_refuses, print_counts, print_refuses}
@@ -57,12 +57,12 @@ all w = w
 
 -- a fault may be that of a child
 abbrev SuiteRefuses : {A E : Type 0} → (E → Refusal) → Step Work A E → Type 0
-SuiteRefuses {A = A} {E = E} name step = Refuses all ⊤ {A = A} {E = E} name step
+SuiteRefuses {A = A} {E = E} name step = RefusesAs all ⊤ {A = A} {E = E} name step
 
 value_refuses : {A : Type 0} {value : A} → SuiteRefuses (λ r. r) (Gives {R = Refusal} value)
 value_refuses = gives_refuses all ⊤
 
-value_counts : {A : Type 0} {value : A} → Counts all (Gives {R = Refusal} value)
+value_counts : {A : Type 0} {value : A} → KeepsCounts all (Gives {R = Refusal} value)
 value_counts a b v gives = still_counts a b gives.same
 
 -- ---- a step that is done where it is asked for
@@ -157,7 +157,7 @@ called_refuses (Some (suc less)) = value_refuses
 called_refuses (Some zero) = then_refuses all (λ a b v s. site_same a b s.rest (s.at.count.stands refl)) (λ a b e s. table_refuses a b s.rest e s.at) (λ number. value_refuses)
 called_refuses None = then_refuses all (λ a b v s. site_same a b s.rest (s.at.count.stands refl)) (λ a b e s. table_refuses a b s.rest e s.at) (λ number. value_refuses)
 
-called_counts : (called : Option ℕ) → Counts all (UsesCalled called)
+called_counts : (called : Option ℕ) → KeepsCounts all (UsesCalled called)
 called_counts (Some (suc less)) = value_counts
 called_counts (Some zero) = then_counts all (λ a b v s. site_same a b s.rest (s.at.count.stands refl)) (λ number. value_counts)
 called_counts None = then_counts all (λ a b v s. site_same a b s.rest (s.at.count.stands refl)) (λ number. value_counts)
@@ -166,7 +166,7 @@ asked_refuses : (settings : Settings) (asked : ℕ) → SuiteRefuses (λ r. r) (
 asked_refuses settings (suc less) = value_refuses
 asked_refuses settings zero = then_refuses all (λ a b v s. spawner_same a b s.rest (s.at.count.stands refl)) (λ a b e s. call_refuses a b s.rest settings e s.at) called_refuses
 
-asked_counts : (settings : Settings) (asked : ℕ) → Counts all (UsesAsked settings asked)
+asked_counts : (settings : Settings) (asked : ℕ) → KeepsCounts all (UsesAsked settings asked)
 asked_counts settings (suc less) = value_counts
 asked_counts settings zero = then_counts all (λ a b v s. spawner_same a b s.rest (s.at.count.stands refl)) called_counts
 
@@ -174,7 +174,7 @@ workers_refuse : (settings : Settings) (parallel : Bool) (asked : ℕ) → Suite
 workers_refuse settings false asked = value_refuses
 workers_refuse settings true asked = asked_refuses settings asked
 
-workers_count : (settings : Settings) (parallel : Bool) (asked : ℕ) → Counts all (CountsWorkers settings parallel asked)
+workers_count : (settings : Settings) (parallel : Bool) (asked : ℕ) → KeepsCounts all (CountsWorkers settings parallel asked)
 workers_count settings false asked = value_counts
 workers_count settings true asked = asked_counts settings asked
 
@@ -190,7 +190,7 @@ select_refuses settings options =
     then_refuses all (λ a b v s. still_counts a b s.same) (λ a b e s. memory_refuses a b e s.same) (λ ids.
     value_refuses))))))
 
-select_counts : (settings : Settings) (options : RunOptions) → Counts all (Selects settings options)
+select_counts : (settings : Settings) (options : RunOptions) → KeepsCounts all (Selects settings options)
 select_counts settings options =
     then_counts all (λ a b v s. site_same a b s.rest (perhaps_stands (λ _ x y ids reads. reads.count.stands refl) a.site b.site v s.at)) (λ listed.
     then_counts all (λ a b v s. site_same a b s.rest (further_stands options.wanted a.site b.site v s.at)) (λ further.
@@ -209,7 +209,7 @@ plan_refuses settings asked selected =
     then_refuses all (λ a b v s. still_counts a b s.same) (λ a b e s. job_refuses a b e s.same) (λ _.
     value_refuses)))))
 
-plan_counts : (settings : Settings) (asked : Bool) (selected : Selected) → Counts all (Plans settings asked selected)
+plan_counts : (settings : Settings) (asked : Bool) (selected : Selected) → KeepsCounts all (Plans settings asked selected)
 plan_counts settings asked selected =
     then_counts all (λ a b v s. folder_same a b s.rest (perhaps_stands (λ _ x y times finds. finds.count.stands refl) a.folder b.folder v s.at)) (λ times.
     then_counts all (λ a b v s. still_counts a b s.same) (λ shares.
@@ -229,7 +229,7 @@ work_refuses partial number plan =
     then_refuses all (λ a b v s. refresh_counts a b number rows v s.at s.rest) (λ a b e s. refresh_refuses a b number rows e s.at s.rest) (λ _.
     value_refuses)))))
 
-work_counts : (partial : Bool) (number : ℕ) (plan : Planned) → Counts all (Works partial number plan)
+work_counts : (partial : Bool) (number : ℕ) (plan : Planned) → KeepsCounts all (Works partial number plan)
 work_counts partial number plan =
     then_counts all (λ a b v s. begin_counts a b v s.at s.rest) (λ _.
     then_counts all (λ a b v s. spawner_same a b s.rest (s.at.sum.stands refl)) (λ rests.
@@ -244,7 +244,7 @@ report_refuses format number filter_tags rows =
     then_refuses all (λ a b v s. print_counts a b _ v s.at s.rest) (λ a b e s. print_refuses a b _ e s.at s.rest) (λ _.
     value_refuses))
 
-report_counts : (format : FormatKind) (number : ℕ) (filter_tags : List (List ℕ)) (rows : List Row) → Counts all (TellsRun format number filter_tags rows)
+report_counts : (format : FormatKind) (number : ℕ) (filter_tags : List (List ℕ)) (rows : List Row) → KeepsCounts all (TellsRun format number filter_tags rows)
 report_counts format number filter_tags rows =
     then_counts all (λ a b v s. still_counts a b s.same) (λ report.
     then_counts all (λ a b v s. print_counts a b _ v s.at s.rest) (λ _.
@@ -258,7 +258,7 @@ among_refuses settings test candidates =
     then_refuses all (λ a b v s. print_counts a b _ v s.at s.rest) (λ a b e s. print_refuses a b _ e s.at s.rest) (λ _.
     value_refuses))
 
-among_counts : (settings : Settings) (test : List ℕ) (candidates : List (List ℕ)) → Counts all (FindsAmong settings test candidates)
+among_counts : (settings : Settings) (test : List ℕ) (candidates : List (List ℕ)) → KeepsCounts all (FindsAmong settings test candidates)
 among_counts settings test candidates =
     then_counts all (λ a b v s. spawner_same a b s.rest (s.at.count.stands refl)) (λ found.
     then_counts all (λ a b v s. print_counts a b _ v s.at s.rest) (λ _.
@@ -269,7 +269,7 @@ cause_refuses settings number one =
     then_refuses all (λ a b v s. folder_same a b s.rest (s.at.count.stands refl)) (λ a b e s. ran_refuses a b s.rest e s.at.count) (λ ids.
     among_refuses settings one.id (candidates_in one.id ids))
 
-cause_counts : (settings : Settings) (number : ℕ) (one : Suspect) → Counts all (FindsCause settings number one)
+cause_counts : (settings : Settings) (number : ℕ) (one : Suspect) → KeepsCounts all (FindsCause settings number one)
 cause_counts settings number one =
     then_counts all (λ a b v s. folder_same a b s.rest (s.at.count.stands refl)) (λ ids.
     among_counts settings one.id (candidates_in one.id ids))
@@ -278,7 +278,7 @@ each_refuses : (settings : Settings) (number : ℕ) (left : List Suspect) → Su
 each_refuses settings number [] = value_refuses
 each_refuses settings number (one ∷ more) = then_refuses all (cause_counts settings number one) (cause_refuses settings number one) (λ _. each_refuses settings number more)
 
-each_counts : (settings : Settings) (number : ℕ) (left : List Suspect) → Counts all (FindsEach settings number left)
+each_counts : (settings : Settings) (number : ℕ) (left : List Suspect) → KeepsCounts all (FindsEach settings number left)
 each_counts settings number [] = value_counts
 each_counts settings number (one ∷ more) = then_counts all (cause_counts settings number one) (λ _. each_counts settings number more)
 
@@ -288,7 +288,7 @@ causes_refuse true settings number rows =
     then_refuses all (λ a b v s. still_counts a b s.same) (λ a b e s. suspects_refuse a b e s.same) (λ suspects.
     each_refuses settings number suspects)
 
-causes_count : (asked : Bool) (settings : Settings) (number : ℕ) (rows : List Row) → Counts all (FindsCauses asked settings number rows)
+causes_count : (asked : Bool) (settings : Settings) (number : ℕ) (rows : List Row) → KeepsCounts all (FindsCauses asked settings number rows)
 causes_count false settings number rows = value_counts
 causes_count true settings number rows =
     then_counts all (λ a b v s. still_counts a b s.same) (λ suspects.
@@ -300,7 +300,7 @@ finds_refuse format asked settings number rows =
     then_refuses all (causes_count asked settings number rows) (causes_refuse asked settings number rows) (λ _.
     value_refuses))
 
-finds_count : (format : FormatKind) (asked : Bool) (settings : Settings) (number : ℕ) (rows : List Row) → Counts all (TellsAndFinds format asked settings number rows)
+finds_count : (format : FormatKind) (asked : Bool) (settings : Settings) (number : ℕ) (rows : List Row) → KeepsCounts all (TellsAndFinds format asked settings number rows)
 finds_count format asked settings number rows =
     then_counts all (report_counts format number settings.filter_tags rows) (λ verdict.
     then_counts all (causes_count asked settings number rows) (λ _.
@@ -317,7 +317,7 @@ list_by_refuses wanted settings =
     then_refuses all (λ a b v s. print_counts a b text v s.at s.rest) (λ a b e s. print_refuses a b text e s.at s.rest) (λ _.
     value_refuses)))))
 
-list_by_counts : (wanted : Wanted) (settings : Settings) → Counts all (ListsBy wanted settings)
+list_by_counts : (wanted : Wanted) (settings : Settings) → KeepsCounts all (ListsBy wanted settings)
 list_by_counts wanted settings =
     then_counts all (λ a b v s. still_counts a b s.same) (λ _.
     then_counts all (λ a b v s. site_same a b s.rest (further_stands wanted a.site b.site v s.at)) (λ further.
@@ -336,7 +336,7 @@ run_by_refuses options settings =
     then_refuses all (work_counts _ _ plan) (work_refuses _ _ plan) (λ rows.
     finds_refuse options.format options.find_causes settings _ rows))))))
 
-run_by_counts : (options : RunOptions) (settings : Settings) → Counts all (RunsBy options settings)
+run_by_counts : (options : RunOptions) (settings : Settings) → KeepsCounts all (RunsBy options settings)
 run_by_counts options settings =
     then_counts all (λ a b v s. open_counts a b v s.at s.rest) (λ found.
     then_counts all (λ a b v s. still_counts a b s.same) (λ _.
@@ -352,21 +352,21 @@ list_refused options = then_refuses all (λ a b v s. site_same a b s.rest (s.at.
 pub run_refused : (options : RunOptions) → SuiteRefuses (λ r. r) (RunsSuite options)
 run_refused options = then_refuses all (λ a b v s. site_same a b s.rest (s.at.count.stands refl)) (λ a b e s. conf_refuses a b s.rest options.project e s.at) (run_by_refuses options)
 
-pub list_counted : (options : ListOptions) → Counts all (ListsSuite options)
+pub list_counted : (options : ListOptions) → KeepsCounts all (ListsSuite options)
 list_counted options = then_counts all (λ a b v s. site_same a b s.rest (s.at.count.stands refl)) (list_by_counts options.wanted)
 
-pub run_counted : (options : RunOptions) → Counts all (RunsSuite options)
+pub run_counted : (options : RunOptions) → KeepsCounts all (RunsSuite options)
 run_counted options = then_counts all (λ a b v s. site_same a b s.rest (s.at.count.stands refl)) (run_by_counts options)
 
 -- ---- the workers in memory
 
-pub selftest_refused : (drawing : Drawing) → Refuses all ⊥ (λ r. r) (TestsItself drawing)
+pub selftest_refused : (drawing : SelfTestWords) → RefusesAs all ⊥ (λ r. r) (TestsItself drawing)
 selftest_refused drawing =
     then_refuses all (λ a b v s. still_counts a b s.same) (λ a b e s. memory_refuses a b e s.same) (λ told.
     then_refuses all (λ a b v s. print_counts a b _ v s.at s.rest) (λ a b e s. print_refuses a b _ e s.at s.rest) (λ _.
     gives_refuses all ⊥))
 
-pub selftest_counted : (drawing : Drawing) → Counts all (TestsItself drawing)
+pub selftest_counted : (drawing : SelfTestWords) → KeepsCounts all (TestsItself drawing)
 selftest_counted drawing =
     then_counts all (λ a b v s. still_counts a b s.same) (λ told.
     then_counts all (λ a b v s. print_counts a b _ v s.at s.rest) (λ _.

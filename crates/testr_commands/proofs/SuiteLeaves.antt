@@ -22,7 +22,7 @@ use Rattle.run_shelf.proofs.DraftLemmas.{goes_writes}
 use Rattle.suite_run.specs.Recording.{RecordsLanes}
 use Rattle.testr_conf.specs.Settings.{Settings}
 use Rattle.suite_run.specs.Starting.{StartsAll, StartsSome, StartsLanes}
-use Rattle.suite_run.specs.declared.starting.StartRefusal.{StartRefusal}
+use Rattle.suite_run.specs.declared.lane_starter.StartRefusal.{StartRefusal}
 use Rattle.worker_lane.specs.declared.lot.Lot.{Lot}
 use Rattle.worker_mux.specs.Runs.{AddsMerge}
 use Rattle.command_steps.specs.Selecting.{Planned}
@@ -44,9 +44,9 @@ use Rattle.command_steps.specs.declared.answer.Refusal.{Refusal}
 use Rattle.command_steps.specs.declared.answer.Refusal.TheVariants.{Lanes, Keep, Refresh}
 use Rattle.testr_commands.proofs.ChainLemmas.{IsQuiet, gives_not}
 use Rattle.testr_commands.proofs.DoneLaws.{kept_through}
-use Rattle.testr_commands.proofs.KeepingLaws.{keeps_moves, Moves, run_moves as run_passes}
+use Rattle.testr_commands.proofs.KeepingLaws.{keeps_moves, MovesSoundly, run_moves as run_passes}
 use Rattle.testr_commands.proofs.MergeLaws.{HaveOutputs, AreOfOutputs, have_outputs, of_outputs}
-use Rattle.command_steps.proofs.Resting.{Rests, rests_then, rests_of_same, goes_ends}
+use Rattle.command_steps.proofs.Resting.{KeepsReads, rests_then, rests_of_same, goes_ends}
 use Rattle.command_steps.proofs.SoundLemmas.{PassesAll, KeepsRunAndCaches, rests_repository, rests_sound}
 use Rattle.testr_commands.proofs.StepLaws.{begin_quiet}
 use Rattle.testr_commands.proofs.FindLemmas.{TellsEvents, TakesPart, tells_behind, causes_still, causes_left, none_searched, so_told}
@@ -231,7 +231,7 @@ module _ (options : RunOptions) (a : Work) (reached : Reached options a) (end : 
   tags = settings.filter_tags
 
   -- the workers, and what was printed of them by then
-  record Behind (m : Work) : Type 0 where
+  record IsBehindWorkers (m : Work) : Type 0 where
     workers : RunsWorkers options a end
     printed : IfSome a.folder.told (λ s. (runs : List Run) → Shows s.disk.published runs → TakesFirst (report_for options.format (rows_of workers.events) (length runs) workers.planned.settings.filter_tags) workers.lines workers.worked end.spawner.told a.out.told end.out.told)
     passes : Goes start.folder.told m.folder.told (PassesAll number (run_of partial (run_bytes workers.events)))
@@ -250,7 +250,7 @@ module _ (options : RunOptions) (a : Work) (reached : Reached options a) (end : 
     out_as = works_out partial number plan start m (Ok rows) works ∙ reached.mild.out
 
     -- a first part of the report was printed, and nothing searched
-    printed_so : (report : Report) → end.spawner.told ≡ m.spawner.told → IsReport options.format number tags rows report → AppendsPrefix m.out.told end.out.told report.text → Behind m
+    printed_so : (report : Report) → end.spawner.told ≡ m.spawner.told → IsReport options.format number tags rows report → AppendsPrefix m.out.told end.out.told report.text → IsBehindWorkers m
     printed_so report is says prefix =
         let first : AppendsPrefix a.out.told end.out.told report.text = subst (λ (o : Option (List ℕ)). AppendsPrefix o end.out.told report.text) out_as prefix in
         record {
@@ -261,7 +261,7 @@ module _ (options : RunOptions) (a : Work) (reached : Reached options a) (end : 
         }
 
     -- nothing was printed
-    silent_so : end.spawner.told ≡ m.spawner.told → end.out.told ≡ m.out.told → Behind m
+    silent_so : end.spawner.told ≡ m.spawner.told → end.out.told ≡ m.out.told → IsBehindWorkers m
     silent_so is same = record {
       workers = worked_workers m rows work [] (none_searched options.find_causes settings work.events a.folder.told m.spawner.told end.spawner.told is);
       printed = every a.folder.told (λ text. inl (record { none = is; no_lines = refl; printed = (0, omega arith, subst (λ (o : Option (List ℕ)). Appends a.out.told o []) (sym (same ∙ out_as)) (Appends-nil a.out.told)) }));
@@ -273,10 +273,10 @@ module _ (options : RunOptions) (a : Work) (reached : Reached options a) (end : 
         every (Some s) each = λ runs shows. each (report_for options.format (rows_of work.events) (length runs) tags)
 
     -- the report was printed, and then causes were searched
-    found_so : (n b : Work) (report : Report) (result : Result (Unit {0}) Refusal) → n.folder.told ≡ m.folder.told → n.spawner.told ≡ m.spawner.told → IsReport options.format number tags rows report → Appends m.out.told n.out.told report.text → FindsCauses options.find_causes settings number rows n b result → b ≡ end → Behind m
+    found_so : (n b : Work) (report : Report) (result : Result (Unit {0}) Refusal) → n.folder.told ≡ m.folder.told → n.spawner.told ≡ m.spawner.told → IsReport options.format number tags rows report → Appends m.out.told n.out.told report.text → FindsCauses options.find_causes settings number rows n b result → b ≡ end → IsBehindWorkers m
     found_so n b report result folder spawner says whole finds last =
         let tells : Goes a.folder.told n.folder.told (λ s t. TellsEvents number work.events t) =
-        goes_ends (λ s t. TellsEvents number work.events t) refl (sym folder) (tells_behind partial number work.events a.folder.told start.folder.told m.folder.told Rests work.are_events work.fit reached.mild.quiet reached.calm work.kept) in
+        goes_ends (λ s t. TellsEvents number work.events t) refl (sym folder) (tells_behind partial number work.events a.folder.told start.folder.told m.folder.told KeepsReads work.are_events work.fit reached.mild.quiet reached.calm work.kept) in
         let left = causes_left settings number work.events n end options.find_causes rows result a.folder.told work.rows_are tells (subst (λ (w : Work). FindsCauses options.find_causes settings number rows n w result) last finds) in
         let first : Appends a.out.told n.out.told report.text = subst (λ (o : Option (List ℕ)). Appends o n.out.told report.text) out_as whole in
         record {
@@ -287,7 +287,7 @@ module _ (options : RunOptions) (a : Work) (reached : Reached options a) (end : 
         }
 
     -- the chain behind the workers
-    behind : (result : Result Verdict Refusal) → TellsAndFinds options.format options.find_causes settings number rows m end result → Behind m
+    behind : (result : Result Verdict Refusal) → TellsAndFinds options.format options.find_causes settings number rows m end result → IsBehindWorkers m
     behind result (stops fault step_is (stops why made_is made)) = silent_so (λ i. (made.same i).spawner.told) (λ i. (made.same i).out.told)
     behind result (stops fault step_is (goes_on report l made (stops why print_is printed))) =
         printed_so report ((λ i. (printed.rest i).spawner.told) ∙ (λ i. (made.same i).spawner.told)) made.says.told
@@ -330,7 +330,7 @@ module _ (options : RunOptions) (a : Work) (reached : Reached options a) (end : 
     pub repository : KeepsRepository s t
 
   pub quiet_moves : (m : Work) → IsQuiet a m → Goes a.folder.told m.folder.told RunMoves
-  quiet_moves m quiet = goes_weaker a.folder.told m.folder.told Rests RunMoves quiet (λ s t rests. record { stops = inl rests.old; sound = rests_sound s t rests; repository = rests_repository s t rests })
+  quiet_moves m quiet = goes_weaker a.folder.told m.folder.told KeepsReads RunMoves quiet (λ s t rests. record { stops = inl rests.old; sound = rests_sound s t rests; repository = rests_repository s t rests })
 
   module _ (workers : RunsWorkers options a end) where
     abbrev run : Run
@@ -341,7 +341,7 @@ module _ (options : RunOptions) (a : Work) (reached : Reached options a) (end : 
 
     run_moves : (m : Work) → Goes start.folder.told m.folder.told (PassesAll number run) → Goes a.folder.told m.folder.told RunMoves
     run_moves m runs =
-        goes_weaker a.folder.told m.folder.told (Moves (HasSuiteRun partial workers.events)) RunMoves
+        goes_weaker a.folder.told m.folder.told (MovesSoundly (HasSuiteRun partial workers.events)) RunMoves
         (run_passes (HasSuiteRun partial workers.events) number run suite_run a.folder.told start.folder.told m.folder.told reached.mild.quiet runs)
         (λ s t moves. record { stops = inr (workers, moves.stops); sound = moves.sound; repository = moves.repository })
 
@@ -384,6 +384,6 @@ pub record RunsMoves (options : RunOptions) (a b : Work) (s t : Folder) : Type 0
 
 pub run_suite_moves : (options : RunOptions) (a b : Work) (result : Result Verdict Refusal) → RunsSuite options a b result → Goes a.folder.told b.folder.told (RunsMoves options a b)
 run_suite_moves options a b result runs = elim (reaches options a b result runs) [
-  | inl mild ↦ goes_weaker a.folder.told b.folder.told Rests (RunsMoves options a b) mild.quiet (λ s t rests. record { stops = inl rests.old; sound = rests_sound s t rests; repository = rests_repository s t rests })
+  | inl mild ↦ goes_weaker a.folder.told b.folder.told KeepsReads (RunsMoves options a b) mild.quiet (λ s t rests. record { stops = inl rests.old; sound = rests_sound s t rests; repository = rests_repository s t rests })
   | inr both ↦ goes_weaker a.folder.told b.folder.told (RunMoves options a both.0 b) (RunsMoves options a b) (moves options a both.0 b result both.1) (λ s t moves. record { stops = moves.stops; sound = moves.sound; repository = moves.repository })
 ]

@@ -1,6 +1,6 @@
 -- `run` and `list-tests` do not give up without a cause.
 use Rattle.suite_run.specs.NoneLost.{AreAllShort}
-use Rattle.command_steps.specs.declared.planning.LongId.{LongId}
+use Rattle.command_steps.specs.declared.work_plan.LongId.{LongId}
 use Rattle.std.proofs.Common.{◌≡◌, ◌⊎◌, inl, inr, ℕ, zero, suc, ◌+◌, ◌<◌, ◌≤◌, pos, Bool, true, false, not, Option, None, Some, IfSome, IsSomeAnd, IsOk, All, Result, Ok, Err, List, [], ◌∷◌, ◌++◌, length, refl, sym, ap, subst, ◌∙◌, arith}
 use Rattle.std.specs.Bool.{⊤}
 use Rattle.std.specs.FinMap as fin
@@ -21,7 +21,7 @@ use Rattle.run_shelf.specs.Repository.{most_runs, run_of}
 use Rattle.partition_times.specs.Patterns.{IsPattern}
 use Rattle.partition_times.specs.Shares.{Times as KnownTimes}
 use Rattle.suite_causes.specs.Searching.{CanHandIds, probe_job}
-use Rattle.suite_plan.specs.Calling.{TellsNumber, TellsNone, StartsCounting, HasCallCause, CallsOut, called}
+use Rattle.suite_plan.specs.Calling.{TellsNumber, TellsNone, StartsCounting, HasCallCause, CallsOut, called_number}
 use Rattle.suite_plan.specs.Children.{IsBroken}
 use Rattle.suite_plan.specs.Choosing.{Ids}
 use Rattle.suite_plan.specs.LaneJobs.{job_before, jobs_from, lane_jobs}
@@ -29,16 +29,16 @@ use Rattle.suite_plan.specs.LoadList.{IsLoadList, HasListCause, ReadsLoadList}
 use Rattle.suite_plan.specs.Processors.{IsInRange, HasTableCause, CountsProcessors, table_name}
 use Rattle.suite_plan.specs.Sharing.{ids_of_shard, shares_for}
 use Rattle.suite_plan.specs.Texts.{most_text}
-use Rattle.suite_plan.specs.declared.calling.CallRefusal.{CallRefusal}
-use Rattle.suite_plan.specs.declared.calling.CallRefusal.TheVariants as call
+use Rattle.suite_plan.specs.declared.count_command.CallRefusal.{CallRefusal}
+use Rattle.suite_plan.specs.declared.count_command.CallRefusal.TheVariants as call
 use Rattle.suite_plan.specs.declared.load_list.ListRefusal.{ListRefusal}
 use Rattle.suite_plan.specs.declared.load_list.ListRefusal.TheVariants as load_list
 use Rattle.suite_plan.specs.declared.processors.TableRefusal.{TableRefusal}
 use Rattle.suite_plan.specs.declared.processors.TableRefusal.TheVariants as table
-use Rattle.suite_run.specs.declared.recording.LanesRefusal.{LanesRefusal}
-use Rattle.suite_run.specs.declared.recording.LanesRefusal.TheVariants as lanes
-use Rattle.suite_run.specs.declared.starting.StartRefusal.{StartRefusal}
-use Rattle.suite_run.specs.declared.starting.StartRefusal.TheVariants as start
+use Rattle.suite_run.specs.declared.lane_recorder.LanesRefusal.{LanesRefusal}
+use Rattle.suite_run.specs.declared.lane_recorder.LanesRefusal.TheVariants as lanes
+use Rattle.suite_run.specs.declared.lane_starter.StartRefusal.{StartRefusal}
+use Rattle.suite_run.specs.declared.lane_starter.StartRefusal.TheVariants as start
 use Rattle.testr_conf.specs.Jobs.{count_job_of, list_job_of, run_job_of}
 use Rattle.testr_conf.specs.ListedIds.{ids_in}
 use Rattle.testr_conf.specs.Settings.{Settings}
@@ -53,17 +53,17 @@ use Rattle.command_steps.specs.Working.{Works}
 use Rattle.testr_commands.specs.Searches.{ProbesEnd, suspects_in, UseNoBroken}
 use Rattle.testr_commands.specs.Prospects.{MayCount, MaySelect, MayPlan}
 use Rattle.command_steps.specs.Runs.{HasRuns, KeepsFiles, run_bytes}
-use Rattle.command_steps.specs.Selecting.{Times, shard_times, worker_times, further_refusal, UsesCalled, UsesAsked, CountsWorkers, needs_listing, Selects, shares_of_ids, MakesJobs, HandsIds, Plans, asked_of, Planned, NamesIds}
+use Rattle.command_steps.specs.Selecting.{TimesById, shard_times, worker_times, further_refusal, UsesCalled, UsesAsked, CountsWorkers, needs_listing, Selects, shares_of_ids, MakesJobs, HandsIds, Plans, ids_of_shares, Planned, NamesIds}
 use Rattle.command_steps.specs.Steps.{Step, stops, goes_on}
-use Rattle.testr_commands.specs.SuiteProgram.{calls_by, calls_of, EndsWell, CountIsTold, CallsOutNone, CanHand, CanRun}
-use Rattle.command_steps.specs.SuiteTexts.{list_code, table_code, job_code, start_code, lanes_code}
+use Rattle.testr_commands.specs.SuiteProgram.{calls_by, worker_count_calls, EndsWell, CountIsTold, CallsOutNone, CanHand, CanRun}
+use Rattle.command_steps.specs.SuiteTexts.{list_exit_status, table_exit_status, job_exit_status, start_exit_status, lanes_exit_status}
 use Rattle.testr_words.specs.Suites.{RunOptions, is_partial}
-use Rattle.command_steps.specs.Told.{tell_code}
+use Rattle.command_steps.specs.Told.{tell_exit_status}
 use Rattle.command_steps.specs.declared.answer.Refusal.{Refusal}
 use Rattle.command_steps.specs.declared.answer.Refusal.TheVariants as refusal
-use Rattle.command_steps.specs.declared.selecting.Selected.{Selected}
-use Rattle.command_steps.specs.declared.told.TellFault.{TellFault}
-use Rattle.command_steps.specs.declared.told.TellFault.TheVariants as tell_fault
+use Rattle.command_steps.specs.declared.test_selection.Selected.{Selected}
+use Rattle.command_steps.specs.declared.question_answers.TellFault.{TellFault}
+use Rattle.command_steps.specs.declared.question_answers.TellFault.TheVariants as tell_fault
 use Rattle.testr_commands.proofs.FolderLemmas.{takes_in_repository, not_full}
 use Rattle.testr_commands.proofs.ChainLemmas.{then_did, gives_not}
 use Rattle.testr_commands.specs.Further.{CanReadFurther}
@@ -72,7 +72,7 @@ use Rattle.testr_commands.proofs.FindLemmas.{TellsEvents, tells_behind}
 use Rattle.suite_plan.proofs.ShardLemmas.{no_part}
 use Rattle.testr_commands.proofs.LeftIds.{no_shares}
 use Rattle.testr_commands.proofs.ProbeCauses.{causes_never, probes_behind}
-use Rattle.command_steps.proofs.Resting.{Rests, goes_ends}
+use Rattle.command_steps.proofs.Resting.{KeepsReads, goes_ends}
 use Rattle.command_steps.proofs.SoundLemmas.{IsCalm, KeepsRunAndCaches, surveyed_calm}
 use Rattle.testr_commands.proofs.StepLaws.{open_quiet}
 use Rattle.testr_commands.proofs.SuiteDone.{select_leaves, plan_leaves, leaves_then, work_did, tell_did}
@@ -83,15 +83,15 @@ use Rattle.testr_words.specs.declared.format.FormatKind.{FormatKind}
 
 -- ---- refusals that have no such cause
 
-tell_never : (fault : TellFault) → tell_code fault ≡ 3 → ⊥
+tell_never : (fault : TellFault) → tell_exit_status fault ≡ 3 → ⊥
 tell_never tell_fault.Shelf three = omega arith
 tell_never tell_fault.NoMemory three = omega arith
 
-start_never : (fault : StartRefusal) → start_code fault ≡ 3 → ⊥
+start_never : (fault : StartRefusal) → start_exit_status fault ≡ 3 → ⊥
 start_never start.Spawn three = omega arith
 start_never start.NoMemory three = omega arith
 
-lanes_never : (fault : LanesRefusal) → lanes_code fault ≡ 3 → ⊥
+lanes_never : (fault : LanesRefusal) → lanes_exit_status fault ≡ 3 → ⊥
 lanes_never (lanes.Shelf which) three = omega arith
 lanes_never lanes.NoMemory three = omega arith
 
@@ -111,7 +111,7 @@ asked_when true x is = refl
 
 -- ---- the list of ids
 
-list_cause : (name : List ℕ) (ids : Ids) (fault : ListRefusal) (files : Files) → IsLoadList name ids files → HasListCause name fault files → list_code fault ≡ 3 → ⊥
+list_cause : (name : List ℕ) (ids : Ids) (fault : ListRefusal) (files : Files) → IsLoadList name ids files → HasListCause name fault files → list_exit_status fault ≡ 3 → ⊥
 list_cause name ids load_list.Site files listed cause three = omega arith
 list_cause name ids (load_list.TooLong given) files listed cause three = not_too_much (files name) listed.text listed.has.there listed.has.short cause
 list_cause name ids (load_list.Absent given) files listed cause three =
@@ -153,7 +153,7 @@ short_table (Some text) short long = omega (arith, short, long)
 abbrev HasShortTable : Files → Type 0
 HasShortTable files = IfSome (files table_name) (λ text. length text ≤ most_text)
 
-table_cause : (fault : TableRefusal) (files : Files) → HasShortTable files → HasTableCause fault files → table_code fault ≡ 3 → ⊥
+table_cause : (fault : TableRefusal) (files : Files) → HasShortTable files → HasTableCause fault files → table_exit_status fault ≡ 3 → ⊥
 table_cause table.Site files short cause three = omega arith
 table_cause table.TooLong files short cause three = short_table (files table_name) short cause
 table_cause table.NoMemory files short cause three = omega arith
@@ -169,7 +169,7 @@ table_never a b fault short counts = (
 pub no_number : (number : ℕ) (said : List ℕ) (output : Output) → TellsNumber number output → TellsNone said output → ⊥
 no_number number said output tells none = by none.none
   where
-    by : (none.status ≡ pos 0 → ⊥) ⊎ (called output.bytes ≡ None) → ⊥
+    by : (none.status ≡ pos 0 → ⊥) ⊎ (called_number output.bytes ≡ None) → ⊥
     by (inl other) =
         let both : Exit none.status ≡ Exit (pos 0) = sym none.ended ∙ tells.ended in
         other cc
@@ -237,10 +237,10 @@ none_called settings (Some number) a b calls told none = by a.told b.told told c
     by (Some s) (Some t) told starts = subst (λ (j : Option Job). CallsOutNone j s) (sym starts.job_is) (starts.output, t.outputs, starts.started.first, subst (λ (n : ℕ). TellsNumber n starts.output) none starts.meets)
 
 -- the table is short where it is asked
-abbrev Counts : Settings → (parallel : Bool) → (asked : ℕ) → Option Spawning → Option Files → Type 0
-Counts settings parallel asked children site = parallel ≡ true → asked ≡ 0 → IsSomeAnd children (CallsOutNone (count_job_of settings)) → IsSomeAnd site HasShortTable
+abbrev CannotCount : Settings → (parallel : Bool) → (asked : ℕ) → Option Spawning → Option Files → Type 0
+CannotCount settings parallel asked children site = parallel ≡ true → asked ≡ 0 → IsSomeAnd children (CallsOutNone (count_job_of settings)) → IsSomeAnd site HasShortTable
 
-asked_never : (settings : Settings) (asked : ℕ) (a b : Work) (r : Refusal) → UsesAsked settings asked a b (Err r) → Counts settings true asked a.spawner.told a.site.told → IsSomeAnd a.spawner.told (CountIsTold (calls_by true asked (count_job_of settings))) → NoCause r
+asked_never : (settings : Settings) (asked : ℕ) (a b : Work) (r : Refusal) → UsesAsked settings asked a b (Err r) → CannotCount settings true asked a.spawner.told a.site.told → IsSomeAnd a.spawner.told (CountIsTold (calls_by true asked (count_job_of settings))) → NoCause r
 asked_never settings (suc less) a b r uses short tells = absurd (gives_not a b r uses)
 asked_never settings zero a b r (stops fault is step) short tells = same_cause (refusal.Call fault) r is (call_never settings a.spawner b.spawner fault tells step.at)
 asked_never settings zero a b r (goes_on number m called next) short tells =
@@ -248,7 +248,7 @@ asked_never settings zero a b r (goes_on number m called next) short tells =
     let table : unwrap_or number 0 ≡ 0 → Tables m = λ none. subst (λ (o : Option Files). IsSomeAnd o HasShortTable) site (short refl refl (none_called settings number a.spawner m.spawner called.at tells none)) in
     called_never number m b r next table
 
-workers_never : (settings : Settings) (parallel : Bool) (asked : ℕ) (a b : Work) (r : Refusal) → CountsWorkers settings parallel asked a b (Err r) → Counts settings parallel asked a.spawner.told a.site.told → IsSomeAnd a.spawner.told (CountIsTold (calls_by parallel asked (count_job_of settings))) → NoCause r
+workers_never : (settings : Settings) (parallel : Bool) (asked : ℕ) (a b : Work) (r : Refusal) → CountsWorkers settings parallel asked a b (Err r) → CannotCount settings parallel asked a.spawner.told a.site.told → IsSomeAnd a.spawner.told (CountIsTold (calls_by parallel asked (count_job_of settings))) → NoCause r
 workers_never settings false asked a b r counts short tells = absurd (gives_not a b r counts)
 workers_never settings true asked a b r counts short tells = asked_never settings asked a b r counts short tells
 
@@ -280,10 +280,10 @@ workers_ends settings true asked a b n counts ends = asked_ends settings asked a
 record CanSelect (options : RunOptions) (settings : Settings) (site : Option Files) (children : Option Spawning) : Type 0 where
   load_list : IfSome options.load_list (λ name. IsSomeAnd site (HasList name))
   lists : CanReadFurther options.wanted site
-  table : Counts settings options.parallel options.concurrency children site
-  count : IsSomeAnd children (CountIsTold (calls_of options settings))
+  table : CannotCount settings options.parallel options.concurrency children site
+  count : IsSomeAnd children (CountIsTold (worker_count_calls options settings))
   job : (workers : ℕ) → MayCount settings options site children workers → needs_listing options workers ≡ true → IsOk (list_job_of settings)
-  ends : (workers : ℕ) → MayCount settings options site children workers → needs_listing options workers ≡ true → EndsAt (calls_of options settings) children
+  ends : (workers : ℕ) → MayCount settings options site children workers → needs_listing options workers ≡ true → EndsAt (worker_count_calls options settings) children
 
 select_never : (settings : Settings) (options : RunOptions) (a b : Work) (r : Refusal) → Selects settings options a b (Err r) → CanSelect options settings a.site.told a.spawner.told → NoCause r
 select_never settings options a b r (stops fault is step) can =
@@ -296,16 +296,16 @@ select_never settings options a b r (goes_on listed m read (goes_on further n mo
 select_never settings options a b r (goes_on listed m read (goes_on further n more (goes_on failing m2 found next))) can =
     let site : a.site.told ≡ m2.site.told = sym ((λ i. (found.rest i).site.told) ∙ further_told options.wanted m.site n.site (Ok further) more.at ∙ list_stays options.load_list a.site m.site listed read.at) in
     let children : a.spawner.told ≡ m2.spawner.told = sym ((λ i. (found.rest i).spawner.told) ∙ (λ i. (more.rest i).spawner.told) ∙ (λ i. (read.rest i).spawner.told)) in
-    let on_site : Counts settings options.parallel options.concurrency a.spawner.told m2.site.told = subst (Counts settings options.parallel options.concurrency a.spawner.told) site can.table in
-    let short : Counts settings options.parallel options.concurrency m2.spawner.told m2.site.told = subst (λ (o : Option Spawning). Counts settings options.parallel options.concurrency o m2.site.told) children on_site in
-    let tells : IsSomeAnd m2.spawner.told (CountIsTold (calls_of options settings)) = subst (λ (o : Option Spawning). IsSomeAnd o (CountIsTold (calls_of options settings))) children can.count in
+    let on_site : CannotCount settings options.parallel options.concurrency a.spawner.told m2.site.told = subst (CannotCount settings options.parallel options.concurrency a.spawner.told) site can.table in
+    let short : CannotCount settings options.parallel options.concurrency m2.spawner.told m2.site.told = subst (λ (o : Option Spawning). CannotCount settings options.parallel options.concurrency o m2.site.told) children on_site in
+    let tells : IsSomeAnd m2.spawner.told (CountIsTold (worker_count_calls options settings)) = subst (λ (o : Option Spawning). IsSomeAnd o (CountIsTold (worker_count_calls options settings))) children can.count in
     elim next [
       | stops fault is step ↦ same_cause fault r is (workers_never settings options.parallel options.concurrency m2 b fault step short tells)
       | goes_on workers m3 counted (stops fault is step) ↦
           let asked = perhaps_asked m3.spawner b.spawner fault step.at in
           let needs : needs_listing options workers ≡ true = asked_when (needs_listing options workers) asked.0 asked.1 in
           let may : MayCount settings options a.site.told a.spawner.told workers = record { start = m2; site_is = sym site; children_are = sym children; counted = m3; counts = counted } in
-          let ends : EndsAt (calls_of options settings) m2.spawner.told = subst (EndsAt (calls_of options settings)) children (can.ends workers may needs) in
+          let ends : EndsAt (worker_count_calls options settings) m2.spawner.told = subst (EndsAt (worker_count_calls options settings)) children (can.ends workers may needs) in
           same_cause (refusal.Listing fault) r is (listing_never settings m3.spawner b.spawner fault (can.job workers may needs) (workers_ends settings options.parallel options.concurrency m2 m3 workers counted ends) asked.2)
       | goes_on workers m3 counted (goes_on listing m4 asked (stops fault is step)) ↦ same_cause (refusal.Memory fault) r is ((λ three. omega arith), (λ child. child))
       | goes_on workers m3 counted (goes_on listing m4 asked (goes_on ids m5 chosen gives)) ↦ absurd (gives_not m5 b r gives)
@@ -314,21 +314,21 @@ select_never settings options a b r (goes_on listed m read (goes_on further n mo
 -- ---- the jobs
 
 -- ids can be handed to a worker of each lane
-abbrev Hands : Settings → Type 0
-Hands settings = (ids : Ids) (lane : ℕ) → IsOk (run_job_of settings (Some ids) lane)
+abbrev CanHandOver : Settings → Type 0
+CanHandOver settings = (ids : Ids) (lane : ℕ) → IsOk (run_job_of settings (Some ids) lane)
 
 before_ok : (first : Result Job JobFault) (later : Result (List Job) JobFault) (fault : JobFault) → IsOk first → (later ≡ Err fault → ⊥) → job_before first later ≡ Err fault → ⊥
 before_ok (Err why) later fault ok never is = cc
 before_ok (Ok job) (Err why) fault ok never is = never is
 before_ok (Ok job) (Ok jobs) fault ok never is = cc
 
-jobs_ok : (settings : Settings) (lane : ℕ) (shares : List Ids) (fault : JobFault) → Hands settings → jobs_from settings lane shares ≡ Err fault → ⊥
+jobs_ok : (settings : Settings) (lane : ℕ) (shares : List Ids) (fault : JobFault) → CanHandOver settings → jobs_from settings lane shares ≡ Err fault → ⊥
 jobs_ok settings lane [] fault handed is = cc
 jobs_ok settings lane (share ∷ shares) fault handed is = before_ok (run_job_of settings (Some share) lane) (jobs_from settings (lane + 1) shares) fault (handed share lane) (jobs_ok settings (lane + 1) shares fault handed) is
 
 -- where there is a share, ids can be handed to a worker
 abbrev HandsShares : Settings → Option (List Ids) → Type 0
-HandsShares settings shares = IfSome shares (λ list. (list ≡ [] → ⊥) → Hands settings)
+HandsShares settings shares = IfSome shares (λ list. (list ≡ [] → ⊥) → CanHandOver settings)
 
 lanes_ok : (settings : Settings) (shares : Option (List Ids)) (fault : JobFault) → HandsShares settings shares → lane_jobs settings shares ≡ Err fault → ⊥
 lanes_ok settings None fault handed is = cc
@@ -338,14 +338,14 @@ lanes_ok settings (Some (share ∷ shares)) fault handed is = jobs_ok settings 0
 job_never : (settings : Settings) (shares : Option (List Ids)) (fault : JobFault) → HandsShares settings shares → MakesJobs settings shares (Err fault) → NoCause (refusal.Job fault)
 job_never settings shares fault handed makes = ((λ three. by makes.refused three), (λ child. child))
   where
-    by : (lane_jobs settings shares ≡ Err fault) ⊎ (fault ≡ job_fault.NoMemory) → job_code fault ≡ 3 → ⊥
+    by : (lane_jobs settings shares ≡ Err fault) ⊎ (fault ≡ job_fault.NoMemory) → job_exit_status fault ≡ 3 → ⊥
     by (inl is) three = lanes_ok settings shares fault handed is
     by (inr is) three =
-        let five : job_code fault ≡ 5 = ap job_code is in
+        let five : job_exit_status fault ≡ 5 = ap job_exit_status is in
         omega (arith, five, three)
 
 -- a share has ids
-handed_shares : (settings : Settings) (times : Option Times) (selected : Selected) → IsInRange selected.workers → IfSome selected.ids (CanHand settings) → HandsShares settings (shares_of_ids settings.group_regex times selected)
+handed_shares : (settings : Settings) (times : Option TimesById) (selected : Selected) → IsInRange selected.workers → IfSome selected.ids (CanHand settings) → HandsShares settings (shares_of_ids settings.group_regex times selected)
 handed_shares settings times selected range handed = by selected.ids handed
   where
     known : KnownTimes
@@ -365,22 +365,22 @@ handed_shares settings times selected range handed = by selected.ids handed
 hands_never : (settings : Settings) (asked : Bool) (fault : JobFault) → (asked ≡ true → CanHandIds settings) → HandsIds asked settings (Err fault) → NoCause (refusal.Job fault)
 hands_never settings asked fault can hands = ((λ three. by (probe_job settings []) (can hands.refused.0) hands.refused.1 three), (λ child. child))
   where
-    by : (job : Result Job JobFault) → IsOk job → (job ≡ Err fault) ⊎ (fault ≡ job_fault.NoMemory) → job_code fault ≡ 3 → ⊥
+    by : (job : Result Job JobFault) → IsOk job → (job ≡ Err fault) ⊎ (fault ≡ job_fault.NoMemory) → job_exit_status fault ≡ 3 → ⊥
     by (Ok job) ok (inl is) three = cc
     by (Err other) ok (inl is) three = cc
     by job ok (inr is) three =
-        let five : job_code fault ≡ 5 = ap job_code is in
+        let five : job_exit_status fault ≡ 5 = ap job_exit_status is in
         omega (arith, five, three)
 
 -- no id is too long
-long_never : (shares : Option (List Ids)) (fault : LongId) → AreAllShort (asked_of shares) → NamesIds shares (Err fault) → NoCause (refusal.LongId fault)
+long_never : (shares : Option (List Ids)) (fault : LongId) → AreAllShort (ids_of_shares shares) → NamesIds shares (Err fault) → NoCause (refusal.LongId fault)
 long_never shares fault short names = absurd (names.refused short)
 
-plan_never : (settings : Settings) (asked : Bool) (selected : Selected) (a b : Work) (r : Refusal) → Plans settings asked selected a b (Err r) → IsInRange selected.workers → IfSome selected.ids (CanHand settings) → ((times : Option Times) → AreAllShort (asked_of (shares_of_ids settings.group_regex times selected))) → (asked ≡ true → CanHandIds settings) → NoCause r
+plan_never : (settings : Settings) (asked : Bool) (selected : Selected) (a b : Work) (r : Refusal) → Plans settings asked selected a b (Err r) → IsInRange selected.workers → IfSome selected.ids (CanHand settings) → ((times : Option TimesById) → AreAllShort (ids_of_shares (shares_of_ids settings.group_regex times selected))) → (asked ≡ true → CanHandIds settings) → NoCause r
 plan_never settings asked selected a b r (stops fault is step) range handed short can = same_cause (refusal.Tell fault) r is ((λ three. tell_never fault three), (λ child. child))
 plan_never settings asked selected a b r (goes_on times m found (stops fault is step)) range handed short can = same_cause (refusal.Memory fault) r is ((λ three. omega arith), (λ child. child))
 plan_never settings asked selected a b r (goes_on times m found (goes_on shares m2 dealt (stops fault is step))) range handed short can =
-    same_cause (refusal.LongId fault) r is (long_never shares fault (subst (λ (s : Option (List Ids)). AreAllShort (asked_of s)) (sym dealt.says.shares) (short times)) step.says)
+    same_cause (refusal.LongId fault) r is (long_never shares fault (subst (λ (s : Option (List Ids)). AreAllShort (ids_of_shares s)) (sym dealt.says.shares) (short times)) step.says)
 plan_never settings asked selected a b r (goes_on times m found (goes_on shares m2 dealt (goes_on _ n named (stops fault is step)))) range handed short can =
     same_cause (refusal.Job fault) r is (job_never settings shares fault (subst (HandsShares settings) (sym dealt.says.shares) (handed_shares settings times selected range handed)) step.says)
 plan_never settings asked selected a b r (goes_on times m found (goes_on shares m2 dealt (goes_on _ n named (goes_on jobs m3 made (stops fault is step))))) range handed short can = same_cause (refusal.Job fault) r is (hands_never settings asked fault can step.says)
@@ -414,7 +414,7 @@ record CanRunBy (options : RunOptions) (settings : Settings) (w : Work) : Type 0
   good_regex : IfSome settings.group_regex IsPattern
   select : CanSelect options settings w.site.told w.spawner.told
   handed : (selected : Selected) → MaySelect settings options w selected → IfSome selected.ids (CanHand settings)
-  named : (times : Option Times) (selected : Selected) → MaySelect settings options w selected → AreAllShort (asked_of (shares_of_ids settings.group_regex times selected))
+  named : (times : Option TimesById) (selected : Selected) → MaySelect settings options w selected → AreAllShort (ids_of_shares (shares_of_ids settings.group_regex times selected))
   hands_ids : options.find_causes ≡ true → CanHandIds settings
   probes : options.find_causes ≡ true → ProbesMayEnd options settings w
 
@@ -452,7 +452,7 @@ run_by_never options settings a b r (goes_on found m opened (goes_on _ m2 took (
 run_by_never options settings a b r (goes_on found m opened (goes_on _ m2 took (goes_on _ m3 compiled (goes_on selected m4 selects (stops fault is step))))) can =
     let calm : m3 ≡ m = compiled.same ∙ took.same in
     let files : Goes a.folder.told m3.folder.told KeepsFiles =
-    subst (λ (w : Work). Goes a.folder.told w.folder.told KeepsFiles) (sym calm) (goes_weaker a.folder.told m.folder.told Rests KeepsFiles (open_quiet a m (Ok found) opened.at) (λ s t rests. rests.files)) in
+    subst (λ (w : Work). Goes a.folder.told w.folder.told KeepsFiles) (sym calm) (goes_weaker a.folder.told m.folder.told KeepsReads KeepsFiles (open_quiet a m (Ok found) opened.at) (λ s t rests. rests.files)) in
     let may : MaySelect settings options a selected = record {
       start = m3;
       folder = files;
@@ -465,11 +465,11 @@ run_by_never options settings a b r (goes_on found m opened (goes_on _ m2 took (
 run_by_never options settings a b r (goes_on found m opened (goes_on _ m2 took (goes_on _ m3 compiled (goes_on selected m4 selects (goes_on plan m5 planned (stops fault is step)))))) can = same_cause fault r is (work_never _ _ plan m5 b fault step)
 run_by_never options settings a b r (goes_on found m opened (goes_on _ m2 took (goes_on _ m3 compiled (goes_on selected m4 selects (goes_on plan m5 planned (goes_on rows m6 worked tells)))))) can =
     let calm : m3 ≡ m = compiled.same ∙ took.same in
-    let quiet : Goes a.folder.told m3.folder.told Rests = subst (λ (w : Work). Goes a.folder.told w.folder.told Rests) (sym calm) (open_quiet a m (Ok found) opened.at) in
+    let quiet : Goes a.folder.told m3.folder.told KeepsReads = subst (λ (w : Work). Goes a.folder.told w.folder.told KeepsReads) (sym calm) (open_quiet a m (Ok found) opened.at) in
     let children : m3.spawner.told ≡ a.spawner.told = (λ i. (calm i).spawner.told) ∙ (λ i. (opened.rest i).spawner.told) in
     let may : MaySelect settings options a selected = record {
       start = m3;
-      folder = goes_weaker a.folder.told m3.folder.told Rests KeepsFiles quiet (λ s t rests. rests.files);
+      folder = goes_weaker a.folder.told m3.folder.told KeepsReads KeepsFiles quiet (λ s t rests. rests.files);
       site_is = (λ i. (calm i).site.told) ∙ (λ i. (opened.rest i).site.told);
       children_are = children;
       selecting = m4;
@@ -481,7 +481,7 @@ run_by_never options settings a b r (goes_on found m opened (goes_on _ m2 took (
     let at_rest : IfSome m3.folder.told IsCalm = subst (λ (w : Work). IfSome w.folder.told IsCalm) (sym calm) (surveyed_calm (kinds_of found) a.folder.told m.folder.told opened.at.found) in
     let kept = goes_ends (KeepsRunAndCaches (length (kinds_of found)) (run_of (is_partial options) (run_bytes work.events))) before.folder refl work.kept in
     let tells_of : Goes a.folder.told m6.folder.told (λ s t. TellsEvents (length (kinds_of found)) work.events t) =
-    tells_behind (is_partial options) (length (kinds_of found)) work.events a.folder.told m3.folder.told m6.folder.told Rests work.are_events work.fit quiet at_rest kept in
+    tells_behind (is_partial options) (length (kinds_of found)) work.events a.folder.told m3.folder.told m6.folder.told KeepsReads work.are_events work.fit quiet at_rest kept in
     let some_folder : IsSomeAnd a.folder.told (λ s. Unit {0}) = some_of a.folder.told _ can.free in
     let some_children : IsSomeAnd m5.spawner.told (λ s. Unit {0}) =
     still_told m3.spawner.told m5.spawner.told (λ s. Unit {0}) (λ s t. ⊤) (subst (λ (o : Option Spawning). IsSomeAnd o (λ s. Unit {0})) (sym children) (some_of a.spawner.told _ can.select.count)) before.told in

@@ -12,8 +12,8 @@ use Rattle.command_steps.specs.Selecting.{UsesCalled, UsesAsked, CountsWorkers, 
 use Rattle.command_steps.specs.Steps.{Step, Gives}
 use Rattle.testr_words.specs.Suites.{ListOptions, RunOptions}
 use Rattle.command_steps.specs.declared.answer.Refusal.{Refusal}
-use Rattle.command_steps.specs.declared.selecting.Selected.{Selected}
-use Rattle.command_steps.proofs.Resting.{Rests, rests_same, rests_of_stays}
+use Rattle.command_steps.specs.declared.test_selection.Selected.{Selected}
+use Rattle.command_steps.proofs.Resting.{KeepsReads, rests_same, rests_of_stays}
 use Rattle.testr_commands.proofs.ChainLemmas.{IsQuiet, Quiet, then_quiet, LeavesPart, then_leaves}
 use Rattle.testr_commands.proofs.StepLaws.{still_quiet}
 
@@ -33,7 +33,7 @@ value_quiet : {A : Type 0} {value : A} (a b : Work) (result : Result A Refusal) 
 value_quiet a b result gives = still_quiet a b gives.same
 
 -- a step of the folder that is done where it is asked for
-perhaps_rests : {X A E : Type 0} {asked : Option X} {step : X → Step (Seen Folder) A E} → ((x : X) (a b : Seen Folder) (result : Result A E) → step x a b result → Goes a.told b.told Rests) → (a b : Seen Folder) (result : Result (Option A) E) → Perhaps asked step a b result → Goes a.told b.told Rests
+perhaps_rests : {X A E : Type 0} {asked : Option X} {step : X → Step (Seen Folder) A E} → ((x : X) (a b : Seen Folder) (result : Result A E) → step x a b result → Goes a.told b.told KeepsReads) → (a b : Seen Folder) (result : Result (Option A) E) → Perhaps asked step a b result → Goes a.told b.told KeepsReads
 perhaps_rests rests a b result (not_asked none is same) = rests_same a.told b.told (λ i. (same i).told)
 perhaps_rests rests a b result (did x value asked is step) = rests x a b (Ok value) step
 perhaps_rests rests a b result (refused x fault asked is step) = rests x a b (Err fault) step

@@ -13,10 +13,10 @@ use Rattle.suite_plan.specs.Calling.{CallsOut, CallsSo, HasCallCause}
 use Rattle.suite_plan.specs.Children.{StartsFor}
 use Rattle.suite_plan.specs.ConfFile.{GivesSettings}
 use Rattle.suite_plan.specs.Listing.{ListsTests, ListsSo, HasListingCause}
-use Rattle.suite_plan.specs.declared.calling.CallRefusal.{CallRefusal}
-use Rattle.suite_plan.specs.declared.calling.CallRefusal.TheVariants as call
-use Rattle.suite_plan.specs.declared.listing.ListingRefusal.{ListingRefusal}
-use Rattle.suite_plan.specs.declared.listing.ListingRefusal.TheVariants as listing
+use Rattle.suite_plan.specs.declared.count_command.CallRefusal.{CallRefusal}
+use Rattle.suite_plan.specs.declared.count_command.CallRefusal.TheVariants as call
+use Rattle.suite_plan.specs.declared.test_listing.ListingRefusal.{ListingRefusal}
+use Rattle.suite_plan.specs.declared.test_listing.ListingRefusal.TheVariants as listing
 use Rattle.testr_conf.specs.Settings.{Settings}
 use Rattle.command_steps.specs.Outside.{Work, work_folder, work_site, work_spawner}
 use Rattle.command_steps.specs.Perhaps.{Perhaps, not_asked, did, refused}
@@ -29,9 +29,9 @@ use Rattle.testr_words.specs.Suites.{RunOptions, is_partial}
 use Rattle.testr_commands.specs.Workers.{AsksFew, HasPlanned}
 use Rattle.command_steps.specs.declared.answer.Refusal.{Refusal}
 use Rattle.command_steps.specs.declared.answer.Verdict.{Verdict}
-use Rattle.command_steps.specs.declared.selecting.Selected.{Selected}
+use Rattle.command_steps.specs.declared.test_selection.Selected.{Selected}
 use Rattle.testr_commands.proofs.ChainLemmas.{IsQuiet}
-use Rattle.command_steps.proofs.Resting.{Rests, rests_then, rests_same, rests_of_stays}
+use Rattle.command_steps.proofs.Resting.{KeepsReads, rests_then, rests_same, rests_of_stays}
 use Rattle.command_steps.proofs.SoundLemmas.{IsCalm, calm_after, surveyed_calm}
 use Rattle.testr_commands.proofs.StepLaws.{open_quiet}
 use Rattle.testr_commands.proofs.SuiteJobs.{few_jobs, selected_range}
@@ -144,7 +144,7 @@ workers_mild settings false asked = λ a b r gives. mild_more 0 1 a b (omega ari
 workers_mild settings true asked = asked_mild settings asked
 
 -- a question of the folder, where it is asked
-perhaps_rests : {X A E : Type 0} {asked : Option X} {step : X → Step (Seen Folder) A E} → ((x : X) (a b : Seen Folder) (result : Result A E) → step x a b result → Goes a.told b.told Rests) → (a b : Seen Folder) (result : Result (Option A) E) → Perhaps asked step a b result → Goes a.told b.told Rests
+perhaps_rests : {X A E : Type 0} {asked : Option X} {step : X → Step (Seen Folder) A E} → ((x : X) (a b : Seen Folder) (result : Result A E) → step x a b result → Goes a.told b.told KeepsReads) → (a b : Seen Folder) (result : Result (Option A) E) → Perhaps asked step a b result → Goes a.told b.told KeepsReads
 perhaps_rests rests a b result (not_asked none is same) = rests_same a.told b.told (λ i. (same i).told)
 perhaps_rests rests a b result (did x value asked is step) = rests x a b (Ok value) step
 perhaps_rests rests a b result (refused x fault asked is step) = rests x a b (Err fault) step
@@ -220,7 +220,7 @@ module _ (options : RunOptions) (settings : Settings) (a : Work) (conf : IfSome 
                 conf = conf;
                 opened = m3;
                 opened_is = same ∙ opened.rest ∙ (λ i. work_folder.put a (sym same i).folder);
-                opened_files = goes_weaker a.folder.told m3.folder.told Rests KeepsFiles first.quiet (λ s t rests. rests.files);
+                opened_files = goes_weaker a.folder.told m3.folder.told KeepsReads KeepsFiles first.quiet (λ s t rests. rests.files);
                 selected = selected;
                 selecting = m4;
                 selects = selects;

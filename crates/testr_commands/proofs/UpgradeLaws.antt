@@ -23,25 +23,25 @@ use Rattle.old_upgrade.proofs.SoundLemmas.{stays_sound, becomes_sound}
 use Rattle.old_upgrade.specs.declared.faults.UpgradeFault.{UpgradeFault}
 use Rattle.old_upgrade.specs.declared.faults.UpgradeFault.TheVariants.{NoStore, NotOld, UnknownFormat, BadCount, BadRun, BadFailing, Shelf, NoMemory}
 use Rattle.command_steps.specs.Outside.{Work, Shown, work_folder, in_folder, SameCounts}
-use Rattle.command_steps.specs.Refusals.{refusal_code, place_of}
+use Rattle.command_steps.specs.Refusals.{refusal_exit_status, fault_place_of}
 use Rattle.command_steps.specs.Reporting.{Prints}
 use Rattle.command_steps.specs.Runs.{KeepsRepository}
 use Rattle.command_steps.specs.Steps.{Then, stops, goes_on, Gives}
 use Rattle.command_steps.specs.Upgrading.{UpgradesFolder, upgraded_text}
-use Rattle.command_steps.specs.Verdicts.{verdict_code}
+use Rattle.command_steps.specs.Verdicts.{verdict_exit_status}
 use Rattle.command_steps.specs.declared.answer.Verdict.{Verdict}
 use Rattle.command_steps.specs.declared.answer.Verdict.TheVariants.{Passed}
 use Rattle.command_steps.specs.declared.answer.Refusal.{Refusal}
 use Rattle.command_steps.specs.declared.answer.Refusal.TheVariants as refusal
-use Rattle.command_steps.specs.declared.reporting.PrintFault.{PrintFault}
+use Rattle.command_steps.specs.declared.run_report.PrintFault.{PrintFault}
 use Rattle.testr_commands.specs.Upgrade.{UpgradesAll, DidUpgrade, IsWholeOld, PrintsOfUpgrade, KeepsWithoutCaches, upgrade_may_have_kept}
-use Rattle.testr_commands.proofs.ChainLemmas.{IsRefused, Counts, Refuses, then_counts, then_refuses, gives_refuses}
+use Rattle.testr_commands.proofs.ChainLemmas.{IsRefused, KeepsCounts, RefusesAs, then_counts, then_refuses, gives_refuses}
 use Rattle.testr_commands.proofs.CommandLaws.{of_shown}
 use Rattle.testr_commands.proofs.StepLaws.{folder_counts, placed, print_counts, print_refuses, gives_counts}
 
 -- ---- the step
 
-upgrade_place : (fault : UpgradeFault) → place_of (refusal.Upgrade fault) ≡ cond (upgrade_failed {T = ℕ} (Err fault)) (Some in_folder) None
+upgrade_place : (fault : UpgradeFault) → fault_place_of (refusal.Upgrade fault) ≡ cond (upgrade_failed {T = ℕ} (Err fault)) (Some in_folder) None
 upgrade_place NoStore = refl
 upgrade_place NotOld = refl
 upgrade_place UnknownFormat = refl
@@ -61,13 +61,13 @@ module _ (site : Seen Files) (spawner : Seen Spawning) (input : Seen (List ℕ))
   abbrev see : Shown → Work
   see = of_shown site spawner input
 
-  pub upgrade_refuses : Refuses see ⊥ (λ r. r) UpgradesAll
+  pub upgrade_refuses : RefusesAs see ⊥ (λ r. r) UpgradesAll
   upgrade_refuses =
       then_refuses see (λ a b v s. step_counts (see a) (see b) v s.at (ap see s.rest)) (λ a b e s. step_refuses (see a) (see b) e s.at (ap see s.rest)) (λ count.
       then_refuses see (λ a b v s. print_counts (see a) (see b) _ v s.at (ap see s.rest)) (λ a b e s. print_refuses (see a) (see b) _ e s.at (ap see s.rest)) (λ _.
       gives_refuses see ⊥))
 
-  pub upgrade_counts : Counts see UpgradesAll
+  pub upgrade_counts : KeepsCounts see UpgradesAll
   upgrade_counts =
       then_counts see (λ a b v s. step_counts (see a) (see b) v s.at (ap see s.rest)) (λ count.
       then_counts see (λ a b v s. print_counts (see a) (see b) _ v s.at (ap see s.rest)) (λ _.
@@ -75,12 +75,12 @@ module _ (site : Seen Files) (spawner : Seen Spawning) (input : Seen (List ℕ))
 
 -- ---- how it ends
 
-data Ends (a b : Shown) (outcome : Result Verdict Refusal) : Type 0 where
-  refused : (fault : UpgradeFault) → outcome ≡ Err (refusal.Upgrade fault) → UpgradesFolder a.folder b.folder (Err fault) → b.out ≡ a.out → Ends a b outcome
-  unprinted : (count : ℕ) (fault : PrintFault) → outcome ≡ Err (refusal.Print fault) → UpgradesFolder a.folder b.folder (Ok count) → AppendsPrefix a.out.told b.out.told (upgraded_text count) → Ends a b outcome
-  printed : (count : ℕ) → outcome ≡ Ok Passed → UpgradesFolder a.folder b.folder (Ok count) → Appends a.out.told b.out.told (upgraded_text count) → AppendsPrefix a.out.told b.out.told (upgraded_text count) → Ends a b outcome
+data UpgradeEnds (a b : Shown) (outcome : Result Verdict Refusal) : Type 0 where
+  refused : (fault : UpgradeFault) → outcome ≡ Err (refusal.Upgrade fault) → UpgradesFolder a.folder b.folder (Err fault) → b.out ≡ a.out → UpgradeEnds a b outcome
+  unprinted : (count : ℕ) (fault : PrintFault) → outcome ≡ Err (refusal.Print fault) → UpgradesFolder a.folder b.folder (Ok count) → AppendsPrefix a.out.told b.out.told (upgraded_text count) → UpgradeEnds a b outcome
+  printed : (count : ℕ) → outcome ≡ Ok Passed → UpgradesFolder a.folder b.folder (Ok count) → Appends a.out.told b.out.told (upgraded_text count) → AppendsPrefix a.out.told b.out.told (upgraded_text count) → UpgradeEnds a b outcome
 
-ends : (a b : Shown) (outcome : Result Verdict Refusal) → UpgradesAll a b outcome → Ends a b outcome
+ends : (a b : Shown) (outcome : Result Verdict Refusal) → UpgradesAll a b outcome → UpgradeEnds a b outcome
 ends a b outcome (stops fault is step) = refused fault is step.at (λ i. (step.rest i).out)
 ends a b outcome (goes_on count m step (stops fault is printing)) =
     unprinted count fault is
@@ -178,7 +178,7 @@ no_shelf (Shelf call) not = cc
 no_shelf NoMemory not = refl
 
 module _ (a b : Shown) (outcome : Result Verdict Refusal) where
-  moments_by : Ends a b outcome → Goes a.folder.told b.folder.told PassesUpgrade
+  moments_by : UpgradeEnds a b outcome → Goes a.folder.told b.folder.told PassesUpgrade
   moments_by (refused fault is step out) = step.any_moment
   moments_by (unprinted count fault is step out) = step.any_moment
   moments_by (printed count is step out part) = step.any_moment
@@ -186,7 +186,7 @@ module _ (a b : Shown) (outcome : Result Verdict Refusal) where
   pub upgrade_moments : UpgradesAll a b outcome → Goes a.folder.told b.folder.told PassesUpgrade
   upgrade_moments done = moments_by (ends a b outcome done)
 
-  sound_by : Ends a b outcome → Goes a.folder.told b.folder.told KeepsWithoutCaches
+  sound_by : UpgradeEnds a b outcome → Goes a.folder.told b.folder.told KeepsWithoutCaches
   sound_by (refused fault is step out) = goes_sound a.folder b.folder (Err fault) step
   sound_by (unprinted count fault is step out) = goes_sound a.folder b.folder (Ok count) step
   sound_by (printed count is step out part) = goes_sound a.folder b.folder (Ok count) step
@@ -197,7 +197,7 @@ module _ (a b : Shown) (outcome : Result Verdict Refusal) where
   upgraded_repository : (count : ℕ) → UpgradesFolder a.folder b.folder (Ok count) → Goes a.folder.told b.folder.told KeepsRepository
   upgraded_repository count step = goes_weaker a.folder.told b.folder.told (Upgrades count) KeepsRepository step.upgraded (λ s t up is. up.is.upgraded.repository)
 
-  repository_by : Ends a b outcome → Goes a.folder.told b.folder.told KeepsRepository
+  repository_by : UpgradeEnds a b outcome → Goes a.folder.told b.folder.told KeepsRepository
   repository_by (refused fault is step out) = goes_weaker a.folder.told b.folder.told (UpgradeFails fault) KeepsRepository step.refused (fails_repository fault)
   repository_by (unprinted count fault is step out) = upgraded_repository count step
   repository_by (printed count is step out part) = upgraded_repository count step
@@ -205,7 +205,7 @@ module _ (a b : Shown) (outcome : Result Verdict Refusal) where
   pub upgrade_repository : UpgradesAll a b outcome → Goes a.folder.told b.folder.told KeepsRepository
   upgrade_repository done = repository_by (ends a b outcome done)
 
-  keeps_by : Ends a b outcome → upgrade_may_have_kept outcome ≡ false → Goes a.folder.told b.folder.told StaysOrNot
+  keeps_by : UpgradeEnds a b outcome → upgrade_may_have_kept outcome ≡ false → Goes a.folder.told b.folder.told StaysOrNot
   keeps_by (refused fault is step out) not =
       let no : upgrade_failed {T = ℕ} (Err fault) ≡ false = no_shelf fault (kept_by outcome (Err (refusal.Upgrade fault)) is not) in
       goes_weaker a.folder.told b.folder.told (UpgradeFails fault) StaysOrNot step.refused (λ s t fails. fails_stay fault s t no fails)
@@ -224,7 +224,7 @@ module _ (a b : Work) where
   abbrev y : Shown
   y = record { folder = b.folder; out = b.out }
 
-  prints_by : (outcome : Result Verdict Refusal) → Ends x y outcome → (b.out.told ≡ a.out.told) ⊎ PrintsOfUpgrade a b
+  prints_by : (outcome : Result Verdict Refusal) → UpgradeEnds x y outcome → (b.out.told ≡ a.out.told) ⊎ PrintsOfUpgrade a b
   prints_by outcome (refused fault is step out) = inl (λ i. (out i).told)
   prints_by outcome (unprinted count fault is step out) = inr (record { count = count; upgraded = step.upgraded; printed = out })
   prints_by outcome (printed count is step out part) = inr (record { count = count; upgraded = step.upgraded; printed = part })
@@ -232,12 +232,12 @@ module _ (a b : Work) where
   pub upgrade_prints : (outcome : Result Verdict Refusal) → UpgradesAll x y outcome → (b.out.told ≡ a.out.told) ⊎ PrintsOfUpgrade a b
   upgrade_prints outcome done = prints_by outcome (ends x y outcome done)
 
-  did_by : (v : Verdict) → Ends x y (Ok v) → DidUpgrade a b (verdict_code v)
+  did_by : (v : Verdict) → UpgradeEnds x y (Ok v) → DidUpgrade a b (verdict_exit_status v)
   did_by v (refused fault is step out) = cc
   did_by v (unprinted count fault is step out) = cc
-  did_by v (printed count is step out part) = let same : v ≡ Passed = cc in record { count = count; upgraded = step.upgraded; printed = out; status = ap verdict_code same }
+  did_by v (printed count is step out part) = let same : v ≡ Passed = cc in record { count = count; upgraded = step.upgraded; printed = out; status = ap verdict_exit_status same }
 
-  pub upgrade_did : (v : Verdict) → UpgradesAll x y (Ok v) → DidUpgrade a b (verdict_code v)
+  pub upgrade_did : (v : Verdict) → UpgradesAll x y (Ok v) → DidUpgrade a b (verdict_exit_status v)
   upgrade_did v done = did_by v (ends x y (Ok v) done)
 
   -- ---- and that it refuses by no name where the folder is whole
@@ -260,7 +260,7 @@ module _ (a b : Work) where
     | inr given ↦ omega (arith, less, given.3, also.counted.within given.0 given.1 given.2)
   ]
 
-  never_step : (fault : UpgradeFault) (s t : Folder) → IsWholeOld s.disk.published → UpgradeFails fault s t → refusal_code (refusal.Upgrade fault) ≡ 3 → ⊥
+  never_step : (fault : UpgradeFault) (s t : Folder) → IsWholeOld s.disk.published → UpgradeFails fault s t → refusal_exit_status (refusal.Upgrade fault) ≡ 3 → ⊥
   never_step NoStore s t can fails three = none_some s.disk.published (s.disk.published format_name) fails.0 can.old.old
   never_step NotOld s t can fails three = not_both s.disk.published can.old.old fails.0
   never_step UnknownFormat s t can fails three = fails.0.not_old can.old.old
@@ -272,19 +272,19 @@ module _ (a b : Work) where
   never_step (Shelf call) s t can fails three = absurd (omega (arith, three))
   never_step NoMemory s t can fails three = absurd (omega (arith, three))
 
-  never_goes : (fault : UpgradeFault) (p q : Option Folder) → IsSomeAnd p (λ s. IsWholeOld s.disk.published) → Goes p q (UpgradeFails fault) → refusal_code (refusal.Upgrade fault) ≡ 3 → ⊥
+  never_goes : (fault : UpgradeFault) (p q : Option Folder) → IsSomeAnd p (λ s. IsWholeOld s.disk.published) → Goes p q (UpgradeFails fault) → refusal_exit_status (refusal.Upgrade fault) ≡ 3 → ⊥
   never_goes fault None q can fails three = can
   never_goes fault (Some s) None can fails three = fails
   never_goes fault (Some s) (Some t) can fails three = never_step fault s t can fails three
 
-  never_by : (r : Refusal) → Ends x y (Err r) → IsSomeAnd a.folder.told (λ s. IsWholeOld s.disk.published) → refusal_code r ≡ 3 → ⊥
+  never_by : (r : Refusal) → UpgradeEnds x y (Err r) → IsSomeAnd a.folder.told (λ s. IsWholeOld s.disk.published) → refusal_exit_status r ≡ 3 → ⊥
   never_by r (refused fault is step out) can three =
       let same : r ≡ refusal.Upgrade fault = cc in
-      never_goes fault a.folder.told b.folder.told can step.refused (ap refusal_code (sym same) ∙ three)
+      never_goes fault a.folder.told b.folder.told can step.refused (ap refusal_exit_status (sym same) ∙ three)
   never_by r (unprinted count fault is step out) can three =
       let same : r ≡ refusal.Print fault = cc in
-      absurd (omega (arith, ap refusal_code (sym same) ∙ three))
+      absurd (omega (arith, ap refusal_exit_status (sym same) ∙ three))
   never_by r (printed count is step out part) can three = cc
 
-  pub upgrade_never : (r : Refusal) → UpgradesAll x y (Err r) → IsSomeAnd a.folder.told (λ s. IsWholeOld s.disk.published) → refusal_code r ≡ 3 → ⊥
+  pub upgrade_never : (r : Refusal) → UpgradesAll x y (Err r) → IsSomeAnd a.folder.told (λ s. IsWholeOld s.disk.published) → refusal_exit_status r ≡ 3 → ⊥
   upgrade_never r done can three = never_by r (ends x y (Err r) done) can three

@@ -5,7 +5,7 @@ use Rattle.edge_io.specs.Bytes.{AppendsPrefix}
 use Rattle.edge_io.specs.Causes.{Rose, HasCause}
 use Rattle.edge_io.specs.Seen.{Seen}
 use Rattle.command_steps.specs.Outside.{Outside, Work, work_of}
-use Rattle.command_steps.specs.Refusals.{code_of}
+use Rattle.command_steps.specs.Refusals.{exit_status}
 use Rattle.command_steps.specs.declared.answer.Verdict.{Verdict}
 use Rattle.command_steps.specs.declared.answer.Refusal.{Refusal}
 use Rattle.testr_words.specs.Suites.{RunOptions}
@@ -17,7 +17,7 @@ use Rattle.testr_words.specs.declared.command.Verb.TheVariants as verb
 use Rattle.testr_commands.specs.Sparing.{SparesReads}
 use Rattle.testr_commands.specs.SparingRun.{SparesRun}
 use Rattle.testr_words.specs.Words.{face_word, and_then, forces_first, hides_then, live_then, streams_then, warns_then, expects_then}
-use Rattle.testr_words.specs.declared.live.LiveKind.{LiveKind}
+use Rattle.testr_words.specs.declared.live_kind.LiveKind.{LiveKind}
 use Rattle.testr_words.specs.declared.command.Command.{Command}
 use Rattle.testr_words.specs.declared.command.Face.{Face}
 use Rattle.testr_words.proofs.WordsLemmas.{same_face}
@@ -204,7 +204,7 @@ read_none folder read before after answer is answers =
 
 module _ (asked : Option Task) (force : Bool) (before after : Outside) (answer : ℕ) (outcome : Result Verdict Refusal) (gives : GivesUp (work_of before) (work_of after) outcome) (told : Tells outcome before.errors after.errors answer) where
   wanting : answer ≡ 5
-  wanting = told.code ∙ ap code_of gives.memory
+  wanting = told.code ∙ ap exit_status gives.memory
 
   not_small : answer ≤ 1 → ⊥
   not_small small = omega (arith, small, wanting)

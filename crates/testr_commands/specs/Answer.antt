@@ -4,9 +4,9 @@ use Rattle.run_shelf.specs.declared.faults.ShelfCall.{ShelfCall}
 use Rattle.run_shelf.specs.declared.faults.ShelfCall.TheVariants.{Publish, SyncFolder}
 use Rattle.testr_words.specs.Tasks.{Task, load, run, upgrade}
 use Rattle.testr_commands.specs.Upgrade.{upgrade_may_have_kept}
-use Rattle.suite_causes.specs.declared.searching.SearchFault.TheVariants as search_fault
-use Rattle.suite_plan.specs.declared.calling.CallRefusal.TheVariants as call
-use Rattle.suite_plan.specs.declared.listing.ListingRefusal.TheVariants as listing
+use Rattle.suite_causes.specs.declared.cause_search.SearchFault.TheVariants as search_fault
+use Rattle.suite_plan.specs.declared.count_command.CallRefusal.TheVariants as call
+use Rattle.suite_plan.specs.declared.test_listing.ListingRefusal.TheVariants as listing
 use Rattle.command_steps.specs.declared.answer.Verdict.{Verdict}
 use Rattle.command_steps.specs.declared.answer.Refusal.{Refusal}
 use Rattle.command_steps.specs.declared.answer.Refusal.TheVariants.{Keep, Refresh, Print, Call, Listing, Report, Suspects, Ran, Search}

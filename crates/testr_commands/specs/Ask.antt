@@ -5,8 +5,8 @@ use Rattle.run_shelf.specs.Holds.{kinds_of}
 use Rattle.command_steps.specs.Steps.{Step, Then, Still, Gives, At}
 use Rattle.command_steps.specs.Outside.{Shown, shown_folder, shown_out}
 use Rattle.command_steps.specs.Store.{Opens, HasRunFor}
-use Rattle.command_steps.specs.Told.{Finds}
-use Rattle.command_steps.specs.Copying.{Copies, copy_refusal}
+use Rattle.command_steps.specs.Told.{FindsAnswer}
+use Rattle.command_steps.specs.Copying.{CopiesRun, copy_refusal}
 use Rattle.command_steps.specs.Reporting.{Prints}
 use Rattle.testr_words.specs.declared.command.Question.{Question}
 use Rattle.testr_words.specs.declared.command.Question.TheVariants.{Last}
@@ -18,13 +18,13 @@ use Rattle.command_steps.specs.declared.answer.Refusal.TheVariants.{Open, Runs, 
 -- the last run is copied as it is
 abbrev pub CopiesLast : Found → Step Shown Verdict Refusal
 CopiesLast found =
-    Then copy_refusal (Copies (length (kinds_of found) - 1)) (λ _.
+    Then copy_refusal (CopiesRun (length (kinds_of found) - 1)) (λ _.
     Gives Passed)
 
 -- the text of the answer is made, and then printed
 abbrev pub PrintsAnswer : Question → Step Shown Verdict Refusal
 PrintsAnswer question =
-    Then Tell (At shown_folder (Finds question)) (λ told.
+    Then Tell (At shown_folder (FindsAnswer question)) (λ told.
     Then Print (At shown_out (Prints told.text.items)) (λ _.
     Gives told.verdict))
 

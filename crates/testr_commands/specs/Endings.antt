@@ -22,7 +22,7 @@ use Rattle.testr_words.specs.Tasks.{Task, load, run}
 use Rattle.command_steps.specs.Files.{RecordsSources}
 use Rattle.command_steps.specs.Outside.{Outside, Work, work_of, work_folder}
 use Rattle.command_steps.specs.Refreshing.{Refreshes}
-use Rattle.command_steps.specs.Refusals.{code_of}
+use Rattle.command_steps.specs.Refusals.{exit_status}
 use Rattle.command_steps.specs.Reporting.{Report, Reports}
 use Rattle.command_steps.specs.Runs.{AddsRun}
 use Rattle.command_steps.specs.Selecting.{Selects, Planned, Plans}
@@ -32,7 +32,7 @@ use Rattle.command_steps.specs.Working.{Works}
 use Rattle.command_steps.specs.declared.answer.Refusal.{Refusal}
 use Rattle.command_steps.specs.declared.answer.Refusal.TheVariants.{LoadList}
 use Rattle.command_steps.specs.declared.answer.Verdict.{Verdict}
-use Rattle.command_steps.specs.declared.selecting.Selected.{Selected}
+use Rattle.command_steps.specs.declared.test_selection.Selected.{Selected}
 use Rattle.testr_commands.specs.Forced.{ReadsReady}
 use Rattle.testr_commands.specs.Program.{Tells}
 use Rattle.testr_commands.specs.Spoken.{HavePackets}
@@ -116,9 +116,9 @@ Readied ending before folder text fails =
     ⊎ ((ready : Work) × (ready ≡ work_folder.put before ready.folder) × Goes before.folder.told ready.folder.told ReadsReady × ending ready folder text fails)
 
 -- the status where the command was done and would have answered this: 1 where what is told at the end fails the call
-abbrev pub ended_as : (fails : Bool) → ℕ → ℕ
-ended_as true inner = 1
-ended_as false inner = inner
+abbrev pub status_at_end : (fails : Bool) → ℕ → ℕ
+status_at_end true inner = 1
+status_at_end false inner = inner
 
 -- What is promised of a call at whose end something is told, behind its report and all other lines. A refusal stands, and nothing is
 -- told then. A sink that fails is no fault of the call.
@@ -128,7 +128,7 @@ pub record Ends (ending : Ending) (promises : Outside → Outside → ℕ → Ty
   pub told : Seen (List ℕ)
   pub rest : promises before (record after { errors = told }) inner
   pub refused : 2 ≤ inner → (answer ≡ inner) × (after.errors ≡ told)
-  pub done : inner ≤ 1 → (text : List ℕ) × (fails : Bool) × (failed : Bool) × ending (work_of before) after.folder.told text fails × Takes text told after.errors failed × (answer ≡ ended_as fails inner)
+  pub done : inner ≤ 1 → (text : List ℕ) × (fails : Bool) × (failed : Bool) × ending (work_of before) after.folder.told text fails × Takes text told after.errors failed × (answer ≡ status_at_end fails inner)
 
 -- ---- of which task
 
@@ -218,7 +218,7 @@ pub record TellsLeft (outcome : Result Verdict Refusal) (text : List ℕ) (fails
   pub told : Seen (List ℕ)
   pub tells : Tells outcome before told inner
   pub refused : 2 ≤ inner → (answer ≡ inner) × (after ≡ told)
-  pub done : inner ≤ 1 → (failed : Bool) × Takes text told after failed × (answer ≡ ended_as fails inner)
+  pub done : inner ≤ 1 → (failed : Bool) × Takes text told after failed × (answer ≡ status_at_end fails inner)
 
 -- the same of a load: nothing is left where nothing is expected of it
 abbrev pub TellsExpected : (expected : Option Ids) → (outcome : Result Verdict Refusal) → (text : List ℕ) → (fails : Bool) → Seen (List ℕ) → Seen (List ℕ) → ℕ → Type 0

@@ -4,8 +4,8 @@ use Rattle.run_shelf.specs.declared.faults.InitFault.{InitFault}
 use Rattle.run_shelf.specs.declared.faults.InitFault.TheVariants as init_fault
 use Rattle.run_shelf.specs.declared.faults.OpenFault.{OpenFault}
 use Rattle.run_shelf.specs.declared.faults.OpenFault.TheVariants as open_fault
-use Rattle.command_steps.specs.declared.recording.RecordFault.{RecordFault}
-use Rattle.command_steps.specs.declared.recording.RecordFault.TheVariants as record_fault
+use Rattle.command_steps.specs.declared.input_recorder.RecordFault.{RecordFault}
+use Rattle.command_steps.specs.declared.input_recorder.RecordFault.TheVariants as record_fault
 
 -- a call of the folder failed while a repository was made
 abbrev pub InitEnds : {T : Type 0} → Result T InitFault → Type 0

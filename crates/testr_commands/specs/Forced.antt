@@ -41,7 +41,7 @@ pub record LeavesFormat (before ready : Outside) : Type 0 where
   pub any_moment : Goes before.folder.told ready.folder.told PassesOld
 
 -- `format` is there, or a repository was made, with all that `init` promises of that; nothing but the folder was touched
-pub record IsReady (before ready : Outside) : Type 0 where
+pub record IsMadeReady (before ready : Outside) : Type 0 where
   pub how : LeavesFormat before ready ⊎ Promises false (Some init) before ready 0
   pub count : ready.folder.faults ≡ before.folder.faults
   pub rest : ready ≡ record before { folder = ready.folder }
@@ -62,9 +62,9 @@ PassesForced task before ready after s t = ⊥
 -- ---- the promises
 
 -- The folder was made ready, and from there on the call promises what the task alone does.
-pub record GoesOn (task : Task) (before after : Outside) (answer : ℕ) : Type 0 where
+pub record GoesOnReady (task : Task) (before after : Outside) (answer : ℕ) : Type 0 where
   pub ready : Outside
-  pub is_ready : IsReady before ready
+  pub is_ready : IsMadeReady before ready
   pub rest : Promises false (Some task) ready after answer
   pub any_moment : Goes before.folder.told after.folder.told (PassesForced task (work_of before) (work_of ready) (work_of after))
   -- where what a stop before the call might have left is sound, so is what one at each moment of it leaves
@@ -74,7 +74,7 @@ pub record GoesOn (task : Task) (before after : Outside) (answer : ℕ) : Type 0
 
 -- how the call went
 pub data GoesForced (reading : Bool) (task : Task) (before after : Outside) (answer : ℕ) : Type 0 where
-  goes_on : GoesOn task before after answer → GoesForced reading task before after answer
+  goes_on : GoesOnReady task before after answer → GoesForced reading task before after answer
   -- a call failed while a repository was made: as of `init` then, and nothing of the task was begun
   not_made : answer ≡ 4 → Promises false (Some init) before after answer → GoesForced reading task before after answer
   -- memory was wanting while the words were read, and nothing was touched

@@ -3,8 +3,8 @@ use Rattle.std.specs.Prelude.{◌≡◌, ℕ, Option, None, Some, IfSome, IsSome
 use Rattle.edge_io.specs.Disk.{Files}
 use Rattle.suite_plan.specs.Choosing.{Ids}
 use Rattle.suite_plan.specs.PatternList.{IsPatternList}
-use Rattle.command_steps.specs.declared.selecting.Further.{Further}
-use Rattle.command_steps.specs.Selecting.{Times}
+use Rattle.command_steps.specs.declared.test_selection.Further.{Further}
+use Rattle.command_steps.specs.Selecting.{TimesById}
 use Rattle.command_steps.specs.TimesFile.{IsTimesFile}
 use Rattle.testr_words.specs.Suites.{Wanted}
 
@@ -14,7 +14,7 @@ GivesPatterns None patterns files = patterns ≡ None
 GivesPatterns (Some name) patterns files = IsSomeAnd patterns (λ patterns. IfSome files (IsPatternList name patterns))
 
 -- these are the times of the file of this name, and none where no file is named
-abbrev pub GivesTimes : (name : Option (List ℕ)) → (times : Option Times) → Option Files → Type 0
+abbrev pub GivesTimes : (name : Option (List ℕ)) → (times : Option TimesById) → Option Files → Type 0
 GivesTimes None times files = times ≡ None
 GivesTimes (Some name) times files = IsSomeAnd times (λ times. IfSome files (IsTimesFile name times))
 
@@ -30,7 +30,7 @@ HasPatterns name files = (patterns : Ids) × IsPatternList name patterns files
 
 -- the file of this name has the form of times
 abbrev pub HasTimes : (name : List ℕ) → Files → Type 0
-HasTimes name files = (times : Times) × IsTimesFile name times files
+HasTimes name files = (times : TimesById) × IsTimesFile name times files
 
 -- so it is of each list that is named, and of the file of times
 pub record CanReadFurther (wanted : Wanted) (files : Option Files) : Type 0 where

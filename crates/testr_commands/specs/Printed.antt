@@ -6,12 +6,12 @@ use Rattle.outcome_fold.specs.Rows.{rows_of}
 use Rattle.packet_codec.specs.Grammar.{AreBytes}
 use Rattle.packet_codec.specs.declared.event.Event.{Event}
 use Rattle.run_shelf.specs.Repository.{Run, Shows}
-use Rattle.sub_text.specs.Texts.{summary_of}
+use Rattle.sub_text.specs.Texts.{summary_text}
 use Rattle.command_steps.specs.Reporting.{report_for}
 use Rattle.suite_plan.specs.Choosing.{Ids}
 use Rattle.suite_plan.specs.ConfFile.{GivesSettings}
 use Rattle.suite_plan.specs.Listing.{ListsSo}
-use Rattle.command_steps.specs.declared.selecting.Further.{Further}
+use Rattle.command_steps.specs.declared.test_selection.Further.{Further}
 use Rattle.testr_conf.specs.Jobs.{id_lines}
 use Rattle.testr_conf.specs.Settings.{Settings}
 use Rattle.command_steps.specs.Files.{AreSources, HasRecordedInTurn}
@@ -59,7 +59,7 @@ PrintsPart (Some (load options names)) before after = PrintsOfLoad options names
 PrintsPart (Some (ask question)) before after = PrintsOfAnswer question before after
 PrintsPart (Some (list options)) before after = PrintsOfListing options before after
 PrintsPart (Some (run options)) before after = PrintsFirst options before after
-PrintsPart (Some (selftest drawing)) before after = AppendsPrefix before.out.told after.out.told (summary_of (rows_in_turn drawing) 0 [])
+PrintsPart (Some (selftest drawing)) before after = AppendsPrefix before.out.told after.out.told (summary_text (rows_in_turn drawing) 0 [])
 PrintsPart (Some upgrade) before after = PrintsOfUpgrade before after
 PrintsPart asked before after = ⊥
 

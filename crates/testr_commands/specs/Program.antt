@@ -6,6 +6,7 @@ use Rattle.edge_io.specs.Causes.{Rose}
 use Rattle.edge_io.specs.Disk.{Folder}
 use Rattle.edge_io.specs.Seen.{Seen}
 use Rattle.edge_io.specs.Steps.{Goes}
+use Rattle.edge_io.specs.Limits.{most_bytes}
 use Rattle.sub_number.specs.declared.memory.NoMemory.{NoMemory}
 use Rattle.packet_codec.specs.declared.event.Event.{Event}
 use Rattle.packet_codec.specs.Grammar.{AreBytes}
@@ -16,14 +17,13 @@ use Rattle.run_shelf.specs.Images.{MakesRepository}
 use Rattle.run_shelf.specs.Repository.{Run, Shows, IsRepository, most_runs, format_name}
 use Rattle.command_steps.specs.Reporting.{report_for}
 use Rattle.testr_commands.specs.Answer.{may_have_kept, IsChildFault}
-use Rattle.command_steps.specs.Refusals.{refusal_text, code_of, place_in}
+use Rattle.command_steps.specs.Refusals.{refusal_text, exit_status, fault_place_in}
 use Rattle.testr_commands.specs.Ask.{Asks}
 use Rattle.command_steps.specs.Files.{AreSources, HasRecordedInTurn}
 use Rattle.testr_commands.specs.Init.{Inits}
 use Rattle.testr_commands.specs.Load.{Loads}
 use Rattle.command_steps.specs.Outside.{Outside, LeavesOutside, Work, work_of, work_folder, work_shown, SomeRose, RisesAt}
 use Rattle.testr_commands.specs.Printed.{PrintsInPart}
-use Rattle.command_steps.specs.Recording.{most_bytes}
 use Rattle.command_steps.specs.Refreshing.{BringsCaches}
 use Rattle.testr_commands.specs.RunSuite.{ListsSuite, RunsSuite}
 use Rattle.command_steps.specs.Runs.{HasRuns, KeepsFiles, KeepsRepository, KeepsRuns, AddsRun}
@@ -36,7 +36,7 @@ use Rattle.testr_commands.specs.SuiteProgram.{ListsAll, RunsAll, CanList, CanRun
 use Rattle.testr_words.specs.Tasks.{Task, init, load, ask, list, run, selftest, upgrade}
 use Rattle.old_upgrade.specs.Upgrading.{StaysOrNot}
 use Rattle.testr_commands.specs.Upgrade.{UpgradesAll, DidUpgrade, CanUpgrade, KeepsWithoutCaches}
-use Rattle.command_steps.specs.Verdicts.{verdict_code}
+use Rattle.command_steps.specs.Verdicts.{verdict_exit_status}
 use Rattle.command_steps.specs.declared.answer.Refusal.{Refusal}
 use Rattle.command_steps.specs.declared.answer.Refusal.TheVariants.{Usage, Memory}
 use Rattle.testr_commands.specs.Workers.{LeavesRun}
@@ -66,7 +66,7 @@ TellsLine (Err refusal) before after = AppendsPrefix before.told after.told (ref
 -- the line of the outcome was told so, and the status is the outcome's
 pub record Tells (outcome : Result Verdict Refusal) (before after : Seen (List ℕ)) (answer : ℕ) : Type 0 where
   pub line : TellsLine outcome before after
-  pub code : answer ≡ code_of outcome
+  pub code : answer ≡ exit_status outcome
 
 -- ---- `load`
 
@@ -102,7 +102,7 @@ pub record AnswersQuestion (question : Question) (before after : Work) (answer :
   pub spawner : after.spawner ≡ before.spawner
   pub input : after.input ≡ before.input
   pub printed : Appends before.out.told after.out.told text
-  pub status : answer ≡ verdict_code verdict
+  pub status : answer ≡ verdict_exit_status verdict
 
 -- ---- completeness
 
@@ -169,10 +169,10 @@ Leaves asked before after = after.spawner ≡ before.spawner
 
 -- what it keeps of a folder where it keeps no run: the files, and `init`, which may put `format` beside them, the runs;
 -- `upgrade` may have put converted runs beside those of a folder of the original tool, which it still is
-abbrev pub Keeps : Option Task → Folder → Folder → Type 0
-Keeps (Some init) = KeepsRuns
-Keeps (Some upgrade) = StaysOrNot
-Keeps asked = KeepsFiles
+abbrev pub KeepsWithoutRun : Option Task → Folder → Folder → Type 0
+KeepsWithoutRun (Some init) = KeepsRuns
+KeepsWithoutRun (Some upgrade) = StaysOrNot
+KeepsWithoutRun asked = KeepsFiles
 
 -- What is promised of sound files. A folder of the original tool is not spoken of in which a cache stands.
 abbrev pub KeepsSoundFor : Option Task → Folder → Folder → Type 0
@@ -216,7 +216,7 @@ pub record Promises (reading : Bool) (asked : Option Task) (before after : Outsi
   -- there is one outcome, which the task's steps made, and the status and the line on the errors' sink are its own
   pub answers : Answers reading asked before after answer
   -- the count of that part's faults rose whose fault the outcome is, and no other
-  pub counts : RisesAt (place_in answers.outcome) (work_of before) (work_of after)
+  pub counts : RisesAt (fault_place_in answers.outcome) (work_of before) (work_of after)
   pub usage : answer ≡ 2 → asked ≡ None
   pub no_command : asked ≡ None → (answer ≡ 2) ⊎ (IsTrue reading × (answer ≡ 5))
   -- a part that is touched failed; or, where programs are started, one of them
@@ -225,7 +225,7 @@ pub record Promises (reading : Bool) (asked : Option Task) (before after : Outsi
   -- nothing was printed, or a first part of what the task prints where it is done
   pub prints : PrintsInPart asked (work_of before) (work_of after)
   -- reads give the files that they gave, whatever these are, unless a run was kept, or the call failed from its naming on
-  pub kept : may_have_kept asked answers.outcome ≡ false → Goes before.folder.told after.folder.told (Keeps asked)
+  pub kept : may_have_kept asked answers.outcome ≡ false → Goes before.folder.told after.folder.told (KeepsWithoutRun asked)
   pub repository : Goes before.folder.told after.folder.told KeepsRepository
   -- a stop at each moment leaves what one before the call might have left, or the files as reads gave them before the
   -- call with all that the task adds

@@ -9,7 +9,7 @@ use Rattle.command_steps.specs.Outside.{Work}
 use Rattle.command_steps.specs.Runs.{KeepsFiles}
 use Rattle.command_steps.specs.Selecting.{CountsWorkers, Selects, Planned, Plans}
 use Rattle.testr_words.specs.Suites.{RunOptions}
-use Rattle.command_steps.specs.declared.selecting.Selected.{Selected}
+use Rattle.command_steps.specs.declared.test_selection.Selected.{Selected}
 
 -- so many workers may be found, over these files and these children
 pub record MayCount (settings : Settings) (options : RunOptions) (site : Option Files) (children : Option Spawning) (workers : ℕ) : Type 0 where

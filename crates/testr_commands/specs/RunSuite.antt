@@ -17,10 +17,10 @@ use Rattle.command_steps.specs.Reporting.{Reports, Prints}
 use Rattle.command_steps.specs.Selecting.{shard_times, picks_of, further_refusal, ReadsFurther, Selects, Plans}
 use Rattle.command_steps.specs.Steps.{Step, Then, Still, Gives, At}
 use Rattle.command_steps.specs.Store.{Opens, TakesRun}
-use Rattle.testr_words.specs.Shards.{Part}
+use Rattle.testr_words.specs.Shards.{NumberedShard}
 use Rattle.testr_words.specs.Suites.{ListOptions, Wanted, RunOptions, is_partial}
 use Rattle.suite_plan.specs.declared.patterns.Compiled.{Compiled}
-use Rattle.command_steps.specs.declared.selecting.Further.{Further}
+use Rattle.command_steps.specs.declared.test_selection.Further.{Further}
 use Rattle.testr_commands.specs.declared.run.Asked.{Asked}
 use Rattle.command_steps.specs.declared.answer.Verdict.{Verdict}
 use Rattle.command_steps.specs.declared.answer.Verdict.TheVariants.{Passed}
@@ -32,7 +32,7 @@ use Rattle.testr_words.specs.declared.format.FormatKind.{FormatKind}
 -- ---- `list-tests`
 
 -- the groups of tests, which count for a shard alone
-abbrev pub groups_for : Option Part → Settings → Option (List ℕ)
+abbrev pub groups_for : Option NumberedShard → Settings → Option (List ℕ)
 groups_for None settings = None
 groups_for (Some part) settings = settings.group_regex
 

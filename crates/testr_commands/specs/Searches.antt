@@ -14,7 +14,7 @@ use Rattle.packet_codec.specs.declared.event.Event.{Event}
 use Rattle.suite_causes.specs.Analysis.{asked_for, AreSearched, HaveLines, UsesNoBroken}
 use Rattle.suite_causes.specs.Searching.{StopsSearch}
 use Rattle.suite_causes.specs.Suspects.{candidates_of, suspects_of}
-use Rattle.suite_causes.specs.declared.searching.SearchFault.{SearchFault}
+use Rattle.suite_causes.specs.declared.cause_search.SearchFault.{SearchFault}
 use Rattle.suite_causes.specs.declared.suspects.Suspect.{Suspect}
 use Rattle.testr_conf.specs.Settings.{Settings}
 use Rattle.worker_mux.specs.Outputs.{lists_asked}

@@ -10,14 +10,14 @@ use Rattle.live_text.specs.declared.live.Live.TheVariants as live
 use Rattle.packet_codec.specs.Canonical.{IsEvent, Fits}
 use Rattle.packet_codec.specs.declared.event.Event.{Event}
 use Rattle.speaker.specs.Speaking.{Takes}
-use Rattle.suite_run.specs.declared.ear.Echo.{Echo}
-use Rattle.suite_run.specs.declared.ear.Echo.TheVariants as echo
-use Rattle.suite_run.specs.declared.ear.Shown.{Shown}
+use Rattle.suite_run.specs.declared.run_listener.Echo.{Echo}
+use Rattle.suite_run.specs.declared.run_listener.Echo.TheVariants as echo
+use Rattle.suite_run.specs.declared.run_listener.Shown.{Shown}
 use Rattle.testr_words.specs.Suites.{is_partial}
 use Rattle.testr_words.specs.Tasks.{Task, load, run}
 use Rattle.testr_words.specs.declared.command.Command.{Command}
-use Rattle.testr_words.specs.declared.live.LiveKind.{LiveKind}
-use Rattle.testr_words.specs.declared.live.LiveKind.TheVariants.{Nothing, Tests, Failures, Dots}
+use Rattle.testr_words.specs.declared.live_kind.LiveKind.{LiveKind}
+use Rattle.testr_words.specs.declared.live_kind.LiveKind.TheVariants.{Nothing, Tests, Failures, Dots}
 use Rattle.command_steps.specs.Outside.{Outside}
 use Rattle.command_steps.specs.Runs.{run_bytes}
 use Rattle.command_steps.specs.Speaking.{EndsWithRun}
@@ -25,15 +25,15 @@ use Rattle.command_steps.specs.Refusals.{refusal_text}
 use Rattle.command_steps.specs.declared.answer.Refusal.{Refusal}
 use Rattle.command_steps.specs.declared.answer.Refusal.TheVariants.{Print}
 use Rattle.command_steps.specs.declared.answer.Verdict.{Verdict}
-use Rattle.command_steps.specs.declared.reporting.PrintFault.{PrintFault}
+use Rattle.command_steps.specs.declared.run_report.PrintFault.{PrintFault}
 use Rattle.testr_commands.specs.Program.{Tells}
 
 -- the lines of the kind that words ask for
-abbrev pub lines_of : LiveKind → Live
-lines_of Nothing = live.Nothing
-lines_of Tests = live.Tests
-lines_of Failures = live.Failures
-lines_of Dots = live.Dots
+abbrev pub live_of_kind : LiveKind → Live
+live_of_kind Nothing = live.Nothing
+live_of_kind Tests = live.Tests
+live_of_kind Failures = live.Failures
+live_of_kind Dots = live.Dots
 
 -- the packets, where they are asked for
 abbrev pub echo_of : Bool → Echo
@@ -42,7 +42,7 @@ echo_of false = echo.Nothing
 
 -- what the command asks to be said of its run
 abbrev pub shown_of : Command → Shown
-shown_of command = record { live = lines_of command.live; echo = echo_of command.subunit }
+shown_of command = record { live = live_of_kind command.live; echo = echo_of command.subunit }
 
 -- ---- what a sink takes
 
@@ -92,7 +92,7 @@ Behind true spoken promises before after answer = (after.errors ≡ spoken) × p
 Behind false spoken promises before after answer = promises (record before { errors = spoken }) after answer
 
 -- Lines were said first, and the rest is promised behind them.
-pub record Says (lines : Taking) (promises : Outside → Outside → ℕ → Type 0) (before after : Outside) (answer : ℕ) : Type 0 where
+pub record SaysLinesFirst (lines : Taking) (promises : Outside → Outside → ℕ → Type 0) (before after : Outside) (answer : ℕ) : Type 0 where
   -- the errors' sink behind the lines, and whether it has failed
   pub spoken : Seen (List ℕ)
   pub failed : Bool
@@ -101,16 +101,16 @@ pub record Says (lines : Taking) (promises : Outside → Outside → ℕ → Typ
 
 -- The lines that are said of a task: of one that keeps a run. A load may find what it refuses in a later file.
 abbrev pub lines_for : LiveKind → Option Task → Taking
-lines_for kind (Some (load options names)) = TakesLines (lines_of kind) false options.partial
-lines_for kind (Some (run options)) = TakesLines (lines_of kind) true (is_partial options)
+lines_for kind (Some (load options names)) = TakesLines (live_of_kind kind) false options.partial
+lines_for kind (Some (run options)) = TakesLines (live_of_kind kind) true (is_partial options)
 lines_for kind asked = TakesNone
 
 -- What is promised of a task that says lines of this kind. Where they are of no kind, nothing is said, and all is as without.
 abbrev pub Saying : LiveKind → Option Task → (promises : Outside → Outside → ℕ → Type 0) → Outside → Outside → ℕ → Type 0
 Saying Nothing asked promises = promises
-Saying Tests asked promises = Says (lines_for Tests asked) promises
-Saying Failures asked promises = Says (lines_for Failures asked) promises
-Saying Dots asked promises = Says (lines_for Dots asked) promises
+Saying Tests asked promises = SaysLinesFirst (lines_for Tests asked) promises
+Saying Failures asked promises = SaysLinesFirst (lines_for Failures asked) promises
+Saying Dots asked promises = SaysLinesFirst (lines_for Dots asked) promises
 
 -- what is told of an outcome: of a refusal its line, behind what the program said that it is of
 abbrev pub outcome_text : Result Verdict Refusal → List ℕ

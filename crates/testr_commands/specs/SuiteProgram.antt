@@ -20,7 +20,7 @@ use Rattle.suite_plan.specs.Listing.{ListsSo}
 use Rattle.suite_plan.specs.LoadList.{IsLoadList}
 use Rattle.suite_plan.specs.Processors.{table_name}
 use Rattle.suite_plan.specs.Texts.{most_text}
-use Rattle.command_steps.specs.declared.selecting.Further.{Further}
+use Rattle.command_steps.specs.declared.test_selection.Further.{Further}
 use Rattle.testr_conf.specs.Jobs.{count_job_of, list_job_of, run_job_of, id_lines}
 use Rattle.testr_conf.specs.Settings.{Settings}
 use Rattle.command_steps.specs.Outside.{Work}
@@ -30,10 +30,10 @@ use Rattle.testr_commands.specs.Further.{GivesFurther, CanReadFurther}
 use Rattle.testr_commands.specs.Searches.{ProbesEnd, SearchesAll}
 use Rattle.testr_commands.specs.Prospects.{MayCount, MaySelect, MayPlan}
 use Rattle.testr_commands.specs.RunSuite.{groups_for, listed_ids}
-use Rattle.command_steps.specs.Selecting.{needs_listing, Times, asked_of, shares_of_ids, Planned}
+use Rattle.command_steps.specs.Selecting.{needs_listing, TimesById, ids_of_shares, shares_of_ids, Planned}
 use Rattle.testr_words.specs.Suites.{ListOptions, RunOptions, is_partial}
 use Rattle.testr_commands.specs.Workers.{RunsWorkers}
-use Rattle.command_steps.specs.declared.selecting.Selected.{Selected}
+use Rattle.command_steps.specs.declared.test_selection.Selected.{Selected}
 
 -- ---- `list-tests`
 
@@ -79,8 +79,8 @@ calls_by true zero (Some job) = 1
 calls_by parallel asked count_job = 0
 
 -- how many programs a run starts to ask for the number of workers
-abbrev pub calls_of : RunOptions → Settings → ℕ
-calls_of options settings = calls_by options.parallel options.concurrency (count_job_of settings)
+abbrev pub worker_count_calls : RunOptions → Settings → ℕ
+worker_count_calls options settings = calls_by options.parallel options.concurrency (count_job_of settings)
 
 -- the child behind so many others ends with 0
 abbrev pub EndsWell : ℕ → Spawning → Type 0
@@ -124,10 +124,10 @@ pub record CanRun (options : RunOptions) (before : Work) : Type 0 where
   pub load_list : IfSome options.load_list (λ name. IsSomeAnd before.site.told (λ files. (ids : Ids) × IsLoadList name ids files))
   pub lists : CanReadFurther options.wanted before.site.told
   pub table : options.parallel ≡ true → options.concurrency ≡ 0 → IsSomeAnd before.spawner.told (CallsOutNone (count_job_of settings)) → IsSomeAnd before.site.told (λ files. IfSome (files table_name) (λ text. length text ≤ most_text))
-  pub count : IsSomeAnd before.spawner.told (CountIsTold (calls_of options settings))
+  pub count : IsSomeAnd before.spawner.told (CountIsTold (worker_count_calls options settings))
   pub job : (workers : ℕ) → MayCount settings options before.site.told before.spawner.told workers → needs_listing options workers ≡ true → IsOk (list_job_of settings)
-  pub ends : (workers : ℕ) → MayCount settings options before.site.told before.spawner.told workers → needs_listing options workers ≡ true → IsSomeAnd before.spawner.told (EndsWell (calls_of options settings))
+  pub ends : (workers : ℕ) → MayCount settings options before.site.told before.spawner.told workers → needs_listing options workers ≡ true → IsSomeAnd before.spawner.told (EndsWell (worker_count_calls options settings))
   pub handed : (selected : Selected) → MaySelect settings options before selected → IfSome selected.ids (CanHand settings)
-  pub named : (times : Option Times) (selected : Selected) → MaySelect settings options before selected → AreAllShort (asked_of (shares_of_ids settings.group_regex times selected))
+  pub named : (times : Option TimesById) (selected : Selected) → MaySelect settings options before selected → AreAllShort (ids_of_shares (shares_of_ids settings.group_regex times selected))
   pub hands_ids : options.find_causes ≡ true → CanHandIds settings
   pub probes : options.find_causes ≡ true → (plan : Planned) (planning : Work) → MayPlan settings options before plan planning → IfSome planning.spawner.told (ProbesEnd plan)

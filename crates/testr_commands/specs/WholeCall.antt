@@ -11,7 +11,7 @@ use Rattle.command_steps.specs.declared.answer.Refusal.{Refusal}
 use Rattle.testr_words.specs.Tasks.{Task}
 use Rattle.testr_words.specs.Words.{asked_by, forced_by, hidden_by, live_by, streamed_by, warned_by, expected_by}
 use Rattle.testr_words.specs.declared.command.Face.{Face}
-use Rattle.testr_words.specs.declared.live.LiveKind.{LiveKind}
+use Rattle.testr_words.specs.declared.live_kind.LiveKind.{LiveKind}
 use Rattle.suite_plan.specs.Choosing.{Ids}
 use Rattle.testr_commands.specs.Endings.{Adding, Expecting, Readied}
 use Rattle.testr_commands.specs.Forced.{PromisesBy}

@@ -21,7 +21,7 @@ use Rattle.command_steps.specs.Outside.{Work, work_folder}
 use Rattle.command_steps.specs.Runs.{KeepsFiles}
 use Rattle.command_steps.specs.Selecting.{Selects, Planned, Plans}
 use Rattle.testr_words.specs.Suites.{RunOptions}
-use Rattle.command_steps.specs.declared.selecting.Selected.{Selected}
+use Rattle.command_steps.specs.declared.test_selection.Selected.{Selected}
 
 -- The jobs of a run: by the project's configuration tests and a number of workers were selected, and a job was made for each
 -- worker.

@@ -4,13 +4,13 @@ ghost use Rattle.std.specs.Prelude.{◌≡◌, true, false, OnOk};
 ghost use Rattle.std.specs.Io.KnownBytes.{Appends};
 ghost use Rattle.edge_io.specs.Bytes.{AppendsPrefix};
 ghost use Rattle.edge_io.specs.Causes.{HasCause};
-ghost use Rattle.command_steps.specs.Refusals.{code_of, refusal_text};
+ghost use Rattle.command_steps.specs.Refusals.{exit_status, refusal_text};
 ghost use Rattle.testr_commands.specs.Program.{Tells};
 ghost use Rattle.testr_commands.specs.Spoken.{nowhere, EndsStream};
 
-use crate::nowhere::Nowhere;
+use crate::null_sink::NullSink;
 use crate::{Refusal, Verdict};
-use command_steps::{PrintFault, Silenced, tell};
+use command_steps::{PrintFault, Silenced, tell_line};
 use edge_io::{Failed, Sink, write_whole};
 
 // Ends a call that prints packets, which would have answered this: what was done is 0, but where the output has failed.
@@ -34,10 +34,10 @@ pub(crate) fn answer_behind<E: Sink>(
 ) -> u8
     ensures spoken { failed ≡ false → Tells outcome.entry (E.seen err.old) (E.seen err.new) result }
     ensures silent { failed ≡ true → (E.seen err.new ≡ E.seen err.old) × Tells outcome.entry nowhere nowhere result }
-    ensures code { result ≡ code_of outcome.entry }
+    ensures code { result ≡ exit_status outcome.entry }
 {
     if failed {
-        let mut nowhere = Nowhere;
+        let mut nowhere = NullSink;
         return answer(outcome, &mut nowhere);
     }
     answer(outcome, err)
@@ -48,10 +48,10 @@ pub(crate) fn answer<E: Sink>(outcome: Result<Verdict, Refusal<'_>>, err: &mut E
     ensures { Tells outcome.entry (E.seen err.old) (E.seen err.new) result }
 {
     match outcome {
-        Ok(verdict) => verdict.code(),
+        Ok(verdict) => verdict.exit_status(),
         Err(refusal) => {
             let _ = tell_refusal(err, &refusal);
-            refusal.code()
+            refusal.exit_status()
         }
     }
 }
@@ -63,5 +63,5 @@ fn tell_refusal<E: Sink>(err: &mut E, refusal: &Refusal<'_>) -> Result<(), Faile
     ensures cause { HasCause (E.seen err.old).faults (E.seen err.new).faults result }
 {
     write_whole(err, refusal.said())?;
-    tell(err, refusal.line())
+    tell_line(err, refusal.line())
 }

@@ -9,7 +9,7 @@ ghost use Rattle.testr_commands.specs.Sparing.{LooksOnly};
 ghost use Rattle.command_steps.specs.Calls.{SparesFor};
 
 use crate::{Refusal, Verdict};
-use command_steps::{copy_last, find, have_run, open, print};
+use command_steps::{check_has_run, copy_last, find_answer, open_store, print_text};
 use edge_io::{Shelf, Sink};
 use std::alloc::Global;
 use testr_words::Question;
@@ -28,14 +28,14 @@ pub fn ask<H: Shelf, O: Sink>(
     ensures spares { SparesFor (6 + base_calls (H.seen shelf.old).told) question (H.seen shelf.old).told (H.clock shelf.old) (H.clock shelf.new) }
     ensures looks { LooksOnly (H.seen shelf.old).told (H.clock shelf.old) (H.clock shelf.new) }
 {
-    let found = open(alloc, shelf)?;
-    have_run(question, &found)?;
+    let found = open_store(alloc, shelf)?;
+    check_has_run(question, &found)?;
     if is_of_bytes(question) {
         copy_last(shelf, &found, out)?;
         return Ok(Verdict::Passed);
     }
-    let told = find(alloc, question, shelf, found)?;
-    print(out, &told.text)?;
+    let told = find_answer(alloc, question, shelf, found)?;
+    print_text(out, &told.text)?;
     Ok(told.verdict)
 }
 

@@ -8,12 +8,12 @@
 //!
 //! - `init`, `load`, `ask`, `run`, `list`, `selftest`: the commands, each a chain of steps
 //! - `upgrade`: the command that takes over a folder of the original tool
-//! - `top`: `testr`
-//! - `quietly`: `quiet`, which needs no program and no thread
+//! - `testr_call`: `testr`
+//! - `single_thread`: `quiet`, which needs no program and no thread
 //! - `answer`: a refusal is told, and the status given
-//! - `shown`: what is said of a run while it goes on
-//! - `left`: what is left to tell at the end, of tests that were asked for and did not run
-//! - `nowhere`: the output of a command that prints no report
+//! - `live_settings`: what is said of a run while it goes on
+//! - `missing_report`: what is left to tell at the end, of tests that were asked for and did not run
+//! - `null_sink`: the output of a command that prints no report
 //! - `laws`, `suite_laws`: each named refusal comes exactly where its cause is
 //!
 //! Its tests stand in rooms of their own above it, `load_trials` and `run_trials`.
@@ -23,16 +23,16 @@ mod answer;
 mod ask;
 mod init;
 mod laws;
-mod left;
 mod list;
+mod live_settings;
 mod load;
-mod nowhere;
-mod quietly;
+mod missing_report;
+mod null_sink;
 mod run;
 mod selftest;
-mod shown;
+mod single_thread;
 mod suite_laws;
-mod top;
+mod testr_call;
 mod upgrade;
 
 pub use command_steps::{
@@ -40,7 +40,9 @@ pub use command_steps::{
     Verdict,
 };
 pub use laws::{refusals_are_exact, refusals_stand_behind_lines};
-pub use quietly::quiet;
+pub use single_thread::quiet;
 pub use suite_laws::suite_refusals_are_exact;
-pub use testr_words::{Command, Face, FormatKind, LiveKind, Question, Verb, reads, reads_as};
-pub use top::{testr, testr_as};
+pub use testr_call::{testr, testr_as};
+pub use testr_words::{
+    Command, Face, FormatKind, LiveKind, Question, Verb, read_command, read_command_as,
+};

@@ -16,11 +16,11 @@ ghost use Rattle.std.specs.FinMap as fin;
 ghost use Rattle.testr_words.specs.Suites.{wanted_of};
 
 use crate::{Refusal, Verdict};
-use command_steps::{Further, print, read_further};
+use command_steps::{Further, print_text, read_further};
 use edge_io::{Sink, Site, Spawner};
 use std::alloc::Global;
 use sub_number::{IdList, NoMemory, TimeMap};
-use suite_plan::{Compiled, PatternRefusal, choose, compile, keep_shard, list_tests};
+use suite_plan::{Compiled, PatternRefusal, choose_ids, compile_picks, ids_of_shard, list_tests};
 use testr_conf::{Conf, id_lines};
 use testr_words::{Command, Shard};
 
@@ -43,7 +43,7 @@ pub fn list<'a, S: Spawner, F: Site, O: Sink>(
     let further = read_further(alloc, command, site)?;
     let ids = list_tests(alloc, conf, spawner)?;
     let text = wanted_lines(alloc, ids, &compiled, &further, command.shard)?;
-    print(out, &text)?;
+    print_text(out, &text)?;
     Ok(Verdict::Passed)
 }
 
@@ -56,8 +56,8 @@ fn compiled<'a>(
     ensures { Compiles command.now.names command.now.excluded (groups_for command.now.shard conf.now) result }
 {
     match command.shard {
-        Some(_) => compile(alloc, &command.names, &command.excluded, conf.group_regex()),
-        None => compile(alloc, &command.names, &command.excluded, None),
+        Some(_) => compile_picks(alloc, &command.names, &command.excluded, conf.group_regex()),
+        None => compile_picks(alloc, &command.names, &command.excluded, None),
     }
 }
 
@@ -73,12 +73,12 @@ fn wanted_lines(
     requires { IsDistinct bytes_eq ids }
     ensures { IfOk result (λ lines. lines.items ≡ id_lines (ids_of_shard (fin.get (shard_times further.now.times)) compiled.now.groups shard (chosen_of (with_further compiled.now.picks further.now.picks) ids))) }
 {
-    let wanted = choose(alloc, ids, &compiled.picks, &further.picks)?;
+    let wanted = choose_ids(alloc, ids, &compiled.picks, &further.picks)?;
     let none = TimeMap::new(alloc);
     let times = match &further.times {
         Some(times) => times,
         None => &none,
     };
-    let kept = keep_shard(alloc, wanted, times, &compiled.groups, shard)?;
+    let kept = ids_of_shard(alloc, wanted, times, &compiled.groups, shard)?;
     id_lines(alloc, kept.list())
 }

@@ -7,7 +7,7 @@ ghost use Rattle.testr_commands.specs.Spoken.{shown_of};
 ghost use Rattle.outcome_fold.specs.Summed.{Sums};
 ghost use Rattle.outcome_fold.specs.declared.row.Row.{Row as ARow};
 ghost use Rattle.command_steps.specs.Outside.{work};
-ghost use Rattle.command_steps.specs.Refusals.{code_of};
+ghost use Rattle.command_steps.specs.Refusals.{exit_status};
 ghost use Rattle.command_steps.specs.Speaking.{SaysAloud};
 ghost use Rattle.std.specs.Prelude.{◌≡◌, ◌≤◌, ℕ, List, false, length, IfSome, IfOk};
 ghost use Rattle.testr_words.specs.Suites.{load_options};
@@ -15,12 +15,12 @@ ghost use Rattle.edge_io.specs.Seen.{Seen};
 ghost use Rattle.edge_io.specs.Spawners.{Spawning};
 ghost use Rattle.suite_run.specs.Aloud.{sinks};
 
-use crate::left::{Left, left_of_load};
-use crate::shown::shown_by;
+use crate::live_settings::shown_by;
+use crate::missing_report::{MissingReport, left_of_load};
 use crate::{Refusal, Verdict};
 use command_steps::{
-    Recorded, Silenced, begin, end_report, keep, open, print_report, record_sources, refresh,
-    say_end, take_run,
+    Recorded, Silenced, check_next_number, end_report, keep_run, open_store, print_report,
+    record_sources, refresh_caches, say_end, start_run,
 };
 use edge_io::{Shelf, Sink, Site, Source};
 use outcome_fold::Summary;
@@ -48,7 +48,7 @@ pub fn load<'a, H: Shelf, F: Site, I: Source, O: Sink, E: Sink, P: Sink>(
     err: &mut E,
     stream: &mut P,
     silenced: &mut Silenced,
-    left: &mut Left,
+    left: &mut MissingReport,
 ) -> Result<Verdict, Refusal<'a>>
     requires few { length command.now.names ≤ 64 }
     requires speaks { (silenced.old.errors ≡ false) × (silenced.old.out ≡ false) }
@@ -56,15 +56,15 @@ pub fn load<'a, H: Shelf, F: Site, I: Source, O: Sink, E: Sink, P: Sink>(
         (work (H.seen shelf.old) (F.seen site.old) spawner (I.seen input.old) (O.seen out.old))
         (work (H.seen shelf.new) (F.seen site.new) spawner (I.seen input.new) (O.seen out.new))
         result }
-    ensures says { SaysAloud (shown_of command.now) false command.now.partial (code_of result) (H.seen shelf.new).told (sinks (E.seen err.old) (P.seen stream.old)) (sinks (E.seen err.new) (P.seen stream.new)) silenced.new }
-    ensures left { code_of result ≤ 1 → IfSome expected.entry (λ ids. (spawner : Seen Spawning) → LeavesLoadEnd (load_options command.now) command.now.names ids.now
+    ensures says { SaysAloud (shown_of command.now) false command.now.partial (exit_status result) (H.seen shelf.new).told (sinks (E.seen err.old) (P.seen stream.old)) (sinks (E.seen err.new) (P.seen stream.new)) silenced.new }
+    ensures left { exit_status result ≤ 1 → IfSome expected.entry (λ ids. (spawner : Seen Spawning) → LeavesLoadEnd (load_options command.now) command.now.names ids.now
         (work (H.seen shelf.old) (F.seen site.old) spawner (I.seen input.old) (O.seen out.old))
         (work (H.seen shelf.new) (F.seen site.new) spawner (I.seen input.new) (O.seen out.new))
         left.new.text.items left.new.fails) }
 {
-    let mut found = open(alloc, shelf)?;
-    take_run(&found)?;
-    begin(shelf)?;
+    let mut found = open_store(alloc, shelf)?;
+    check_next_number(&found)?;
+    start_run(shelf)?;
     let Recorded { summary, end } = record_sources(
         alloc,
         &command.names,
@@ -78,9 +78,9 @@ pub fn load<'a, H: Shelf, F: Site, I: Source, O: Sink, E: Sink, P: Sink>(
     )?;
     let missing = missing_of(alloc, expected, &summary)?;
     let ending = end_report(alloc, command.format, found.runs(), &summary)?;
-    keep(shelf, &mut found, command.partial)?;
+    keep_run(shelf, &mut found, command.partial)?;
     say_end(&end, err, silenced);
-    if let Err(fault) = refresh(alloc, shelf, found, &summary) {
+    if let Err(fault) = refresh_caches(alloc, shelf, found, &summary) {
         return Err(Refusal::Refresh(fault));
     }
     print_report(out, &ending, &summary)?;
@@ -91,11 +91,15 @@ pub fn load<'a, H: Shelf, F: Site, I: Source, O: Sink, E: Sink, P: Sink>(
 }
 
 // What is left to tell of the rows of which this is kept.
-fn missing_of(alloc: Global, expected: Option<&IdList>, summary: &Summary) -> Result<Left, NoMemory>
+fn missing_of(
+    alloc: Global,
+    expected: Option<&IdList>,
+    summary: &Summary,
+) -> Result<MissingReport, NoMemory>
     ensures { IfSome expected.entry (λ ids. (filter_tags : List (List ℕ)) (rows : List ARow) → Sums filter_tags rows summary.now → IfOk result (λ end. (end.text.items ≡ missing.missing_text ids.now rows) × (end.fails ≡ missing.some_missing ids.now rows))) }
 {
     match expected {
         Some(ids) => left_of_load(alloc, ids, summary),
-        None => Ok(Left::none(alloc)),
+        None => Ok(MissingReport::none(alloc)),
     }
 }

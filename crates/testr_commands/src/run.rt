@@ -6,7 +6,7 @@ ghost use Rattle.edge_io.specs.Disk.{Files, Folder};
 ghost use Rattle.edge_io.specs.Seen.{Seen};
 ghost use Rattle.outcome_fold.specs.Summed.{Sums};
 ghost use Rattle.outcome_fold.specs.declared.row.Row.{Row as ARow};
-ghost use Rattle.command_steps.specs.Refusals.{code_of};
+ghost use Rattle.command_steps.specs.Refusals.{exit_status};
 ghost use Rattle.command_steps.specs.Outside.{work};
 ghost use Rattle.run_shelf.specs.Holds.{kinds_of, FitsWhereTold};
 ghost use Rattle.suite_causes.specs.Searching.{CanHandIds};
@@ -19,15 +19,15 @@ ghost use Rattle.command_steps.specs.Speaking.{SaysAloud};
 ghost use Rattle.suite_run.specs.Aloud.{sinks};
 ghost use Rattle.command_steps.specs.Verdicts.{verdict_of};
 ghost use Rattle.command_steps.specs.declared.answer.Verdict.TheVariants.{Passed};
-ghost use Rattle.testr_words.specs.Suites.{wanted_of, run_options, is_part, is_partial as is_partial_run};
+ghost use Rattle.testr_words.specs.Suites.{wanted_of, run_options, runs_in_part, is_partial as is_partial_run};
 ghost use Rattle.suite_plan.specs.Patterns.{Compiles};
 
-use crate::left::{Left, asks_tests, left_of_run, selects_none};
-use crate::shown::shown_by;
+use crate::live_settings::shown_by;
+use crate::missing_report::{MissingReport, asks_tests, left_of_run, selects_none};
 use crate::{Refusal, Verdict};
 use command_steps::{
-    Kept, Silenced, end_report, find_causes, open, plan, print_report, run_workers, select,
-    take_run,
+    Kept, Silenced, check_next_number, end_report, find_causes, open_store, plan_workers,
+    print_report, run_workers, select_tests,
 };
 use edge_io::{Shelf, Sink, Site, Spawner};
 use outcome_fold::{Summary, copies_of};
@@ -38,7 +38,7 @@ use std::mem::forget;
 use std::sync::Wait;
 use std::thread::Threads;
 use sub_number::NoMemory;
-use suite_plan::{Compiled, PatternRefusal, compile};
+use suite_plan::{Compiled, PatternRefusal, compile_picks};
 use testr_conf::Conf;
 use testr_words::{Command, FormatKind};
 
@@ -62,25 +62,25 @@ pub fn run<'a, R: Threads + Wait + Sync, H: Shelf, S: Spawner, F: Site, O: Sink,
     err: &mut E,
     stream: &mut P,
     silenced: &mut Silenced,
-    left: &mut Left,
+    left: &mut MissingReport,
 ) -> Result<Verdict, Refusal<'a>>
     requires speaks { (silenced.old.errors ≡ false) × (silenced.old.out ≡ false) }
     ensures step { (input : Seen (List ℕ)) → RunsBy (run_options [] command.now) conf.now
         (work (H.seen shelf.old) (F.seen site.old) (S.seen spawner.old) input (O.seen out.old))
         (work (H.seen shelf.new) (F.seen site.new) (S.seen spawner.new) input (O.seen out.new))
         result }
-    ensures says { SaysAloud (shown_of command.now) true (is_partial_run (run_options [] command.now)) (code_of result) (H.seen shelf.new).told (sinks (E.seen err.old) (P.seen stream.old)) (sinks (E.seen err.new) (P.seen stream.new)) silenced.new }
-    ensures left { (input : Seen (List ℕ)) → code_of result ≤ 1 → LeavesRunEnd (run_options [] command.now) conf.now
+    ensures says { SaysAloud (shown_of command.now) true (is_partial_run (run_options [] command.now)) (exit_status result) (H.seen shelf.new).told (sinks (E.seen err.old) (P.seen stream.old)) (sinks (E.seen err.new) (P.seen stream.new)) silenced.new }
+    ensures left { (input : Seen (List ℕ)) → exit_status result ≤ 1 → LeavesRunEnd (run_options [] command.now) conf.now
         (work (H.seen shelf.old) (F.seen site.old) (S.seen spawner.old) input (O.seen out.old))
         (work (H.seen shelf.new) (F.seen site.new) (S.seen spawner.new) input (O.seen out.new))
         left.new.text.items left.new.fails }
-    ensures calls { SparesRunOf command.now.find_causes (is_partial_run (run_options [] command.now)) (H.seen shelf.old).told (H.seen shelf.new).told (code_of result) (H.clock shelf.old) (H.clock shelf.new) }
+    ensures calls { SparesRunOf command.now.find_causes (is_partial_run (run_options [] command.now)) (H.seen shelf.old).told (H.seen shelf.new).told (exit_status result) (H.clock shelf.old) (H.clock shelf.new) }
 {
-    let found = open(alloc, shelf)?;
-    take_run(&found)?;
+    let found = open_store(alloc, shelf)?;
+    check_next_number(&found)?;
     let number = found.runs();
     let asked = read_asked(alloc, command, conf)?;
-    let selected = select(
+    let selected = select_tests(
         alloc,
         conf,
         command,
@@ -91,7 +91,7 @@ pub fn run<'a, R: Threads + Wait + Sync, H: Shelf, S: Spawner, F: Site, O: Sink,
         site,
     )?;
     let chose_none = selects_none(&selected);
-    let plan = plan(
+    let plan = plan_workers(
         alloc,
         conf,
         &asked.compiled.groups,
@@ -170,7 +170,7 @@ fn tell_and_find<H: Shelf, S: Spawner, O: Sink>(
         (work (H.seen shelf.old) site (S.seen spawner.old) input (O.seen out.old))
         (work (H.seen shelf.new) site (S.seen spawner.new) input (O.seen out.new))
         result }
-    ensures still { (rows : List ARow) → Sums conf.now.filter_tags rows summary.now → code_of result ≤ 1 → (find_causes ≡ true → code_of result ≡ 0) → (H.seen shelf.new ≡ H.seen shelf.old) × (H.clock shelf.new ≡ H.clock shelf.old) }
+    ensures still { (rows : List ARow) → Sums conf.now.filter_tags rows summary.now → exit_status result ≤ 1 → (find_causes ≡ true → exit_status result ≡ 0) → (H.seen shelf.new ≡ H.seen shelf.old) × (H.clock shelf.new ≡ H.clock shelf.old) }
 {
     let Stored { found, number } = stored;
     let verdict = tell_run(alloc, format, number, summary, out)?;
@@ -233,10 +233,10 @@ fn read_asked<'a>(
 ) -> Result<Asked, PatternRefusal<'a>>
     ensures compiled { Compiles command.now.names command.now.excluded conf.now.group_regex (compiled_in result) }
     ensures filter_tags { IfOk result (λ asked. asked.filter_tags ≡ conf.now.filter_tags) }
-    ensures partial { IfOk result (λ asked. asked.partial ≡ is_part command.now.partial command.now.failing command.now.load_list (wanted_of command.now)) }
+    ensures partial { IfOk result (λ asked. asked.partial ≡ runs_in_part command.now.partial command.now.failing command.now.load_list (wanted_of command.now)) }
 {
     let partial = is_partial(command);
-    match compile(alloc, &command.names, &command.excluded, conf.group_regex()) {
+    match compile_picks(alloc, &command.names, &command.excluded, conf.group_regex()) {
         Ok(compiled) => match copies_of(alloc, conf.filter_tags().list()) {
             Ok(filter_tags) => Ok(Asked {
                 compiled,
@@ -251,7 +251,7 @@ fn read_asked<'a>(
 
 // Whether the run is of a part of the tests: it is called so, or its tests are chosen.
 fn is_partial(command: &Command) -> bool
-    ensures { result ≡ is_part command.now.partial command.now.failing command.now.load_list (wanted_of command.now) }
+    ensures { result ≡ runs_in_part command.now.partial command.now.failing command.now.load_list (wanted_of command.now) }
 {
     command.partial || command.failing || command.load_list.is_some() || command.is_choosing()
 }

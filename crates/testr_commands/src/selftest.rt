@@ -8,10 +8,13 @@ ghost use Rattle.testr_words.specs.Drawings.{are_few};
 ghost use Rattle.command_steps.specs.Outside.{work};
 ghost use Rattle.testr_commands.specs.SelfTest.{TestsItself, SumsUp, RunsInTurn, rows_in_turn};
 
-use crate::nowhere::Nowhere;
+use crate::null_sink::NullSink;
 use crate::{Refusal, Verdict};
-use command_steps::{Silenced, Told, make, open, print, run_workers, take_run, verdict_kept};
-use drawn_lanes::plans;
+use command_steps::{
+    Silenced, Told, check_next_number, make_store, open_store, print_text, run_workers,
+    verdict_of_summary,
+};
+use drawn_lanes::drawn_plans;
 use edge_io::{Job, MemShelf, PlanSpawner, Shelf, Sink, Spawner};
 use itoa::Buffer;
 use live_text::Live;
@@ -23,14 +26,14 @@ use std::thread::Threads;
 use sub_number::{Bytes, NoMemory};
 use sub_text::summary_from;
 use suite_run::{Echo, Shown};
-use testr_words::Drawing;
+use testr_words::SelfTestWords;
 
 /// Runs workers whose outputs are made up, in memory, as `testr run` runs those of a project; and prints the summary of
 /// that run. It may wait for the threads that read them.
 pub fn selftest<R: Threads + Wait + Sync, O: Sink>(
     rt: &R,
     alloc: Global,
-    drawing: Drawing,
+    drawing: SelfTestWords,
     out: &mut O,
 ) -> Result<Verdict, Refusal<'static>>
     requires few { are_few drawing.lanes drawing.tests ≡ true }
@@ -40,7 +43,7 @@ pub fn selftest<R: Threads + Wait + Sync, O: Sink>(
         result }
 {
     let told = sum_up(rt, alloc, drawing)?;
-    print(out, &told.text)?;
+    print_text(out, &told.text)?;
     Ok(told.verdict)
 }
 
@@ -48,7 +51,7 @@ pub fn selftest<R: Threads + Wait + Sync, O: Sink>(
 fn sum_up<R: Threads + Wait + Sync>(
     rt: &R,
     alloc: Global,
-    drawing: Drawing,
+    drawing: SelfTestWords,
 ) -> Result<Told, NoMemory>
     requires few { are_few drawing.lanes drawing.tests ≡ true }
     ensures { SumsUp drawing result }
@@ -58,7 +61,7 @@ fn sum_up<R: Threads + Wait + Sync>(
     summary_from(summary.counts(), 0, &mut text)?;
     Ok(Told {
         text,
-        verdict: verdict_kept(&summary),
+        verdict: verdict_of_summary(&summary),
     })
 }
 
@@ -66,12 +69,12 @@ fn sum_up<R: Threads + Wait + Sync>(
 fn drawn_summary<R: Threads + Wait + Sync>(
     rt: &R,
     alloc: Global,
-    drawing: Drawing,
+    drawing: SelfTestWords,
 ) -> Result<Summary, NoMemory>
     requires few { are_few drawing.lanes drawing.tests ≡ true }
     ensures { IfOk result (Sums [] (rows_in_turn drawing)) }
 {
-    let plans = plans(alloc, drawing.seed, drawing.lanes, drawing.tests)?;
+    let plans = drawn_plans(alloc, drawing.seed, drawing.lanes, drawing.tests)?;
     let jobs = lane_jobs(alloc, drawing.lanes)?;
     let mut spawner = PlanSpawner::new(alloc, plans, Vec::new(alloc));
     let mut shelf = MemShelf::new(alloc, Vec::new(alloc));
@@ -110,9 +113,9 @@ fn run_drawn<R: Threads + Wait + Sync, H: Shelf, S: Spawner>(
     requires few { length jobs.now ≤ 64 }
     ensures { IfOk result (λ summary. (rows : List ARow) × Sums [] rows summary × IfSome (S.seen spawner.old).told (λ s. RunsInTurn jobs.now s rows)) }
 {
-    make(shelf)?;
-    let found = open(alloc, shelf)?;
-    take_run(&found)?;
+    make_store(shelf)?;
+    let found = open_store(alloc, shelf)?;
+    check_next_number(&found)?;
     let filter_tags = Tags::new(alloc);
     let unshown = Shown {
         live: Live::Nothing,
@@ -131,8 +134,8 @@ fn run_drawn<R: Threads + Wait + Sync, H: Shelf, S: Spawner>(
         spawner,
         filter_tags,
         unshown,
-        &mut Nowhere,
-        &mut Nowhere,
+        &mut NullSink,
+        &mut NullSink,
         &mut silenced,
     ) {
         Ok(kept) => Ok(kept.summary),

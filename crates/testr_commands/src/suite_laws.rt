@@ -1,7 +1,7 @@
 //! Laws of the refusals of `run` and `list-tests`.
 
 ghost use Rattle.suite_run.specs.NoneLost.{AreAllShort};
-ghost use Rattle.command_steps.specs.declared.planning.LongId.{LongId as ALongId};
+ghost use Rattle.command_steps.specs.declared.work_plan.LongId.{LongId as ALongId};
 ghost use Rattle.std.specs.Prelude.{◌≡◌, ◌⊎◌, ℕ, ℤ, ◌++◌, List, Option, Result, Ok, Err, None, true, [], IsSome, IsSomeAnd, IsOk, IsErr, All};
 ghost use Rattle.edge_io.specs.Disk.{Files};
 ghost use Rattle.edge_io.specs.Seen.{Seen};
@@ -11,8 +11,8 @@ ghost use Rattle.partition_times.specs.Patterns.{IsPattern};
 ghost use Rattle.isolation_bisect.specs.declared.found.Found.{Found as AFound};
 ghost use Rattle.suite_causes.specs.Analysis.{UsesNoBroken};
 ghost use Rattle.suite_causes.specs.Searching.{Searches, probe_job};
-ghost use Rattle.suite_causes.specs.declared.searching.SearchFault.{SearchFault as ASearchFault};
-ghost use Rattle.suite_causes.specs.declared.searching.SearchFault.TheVariants as search_fault;
+ghost use Rattle.suite_causes.specs.declared.cause_search.SearchFault.{SearchFault as ASearchFault};
+ghost use Rattle.suite_causes.specs.declared.cause_search.SearchFault.TheVariants as search_fault;
 ghost use Rattle.suite_plan.specs.Calling.{CallsOut, TellsNone};
 ghost use Rattle.suite_plan.specs.Choosing.{Ids};
 ghost use Rattle.testr_words.specs.Suites.{Project};
@@ -24,12 +24,12 @@ ghost use Rattle.suite_plan.specs.Patterns.{Compiles, IsFirstBadText, IsBadRegex
 ghost use Rattle.suite_plan.specs.PatternList.{ReadsPatternList, HasOtherLine, HasBadLine};
 ghost use Rattle.suite_plan.specs.Processors.{CountsProcessors, table_name};
 ghost use Rattle.suite_plan.specs.Texts.{HasTooMuch};
-ghost use Rattle.suite_plan.specs.declared.calling.CallRefusal.{CallRefusal as ACallRefusal};
-ghost use Rattle.suite_plan.specs.declared.calling.CallRefusal.TheVariants as call;
+ghost use Rattle.suite_plan.specs.declared.count_command.CallRefusal.{CallRefusal as ACallRefusal};
+ghost use Rattle.suite_plan.specs.declared.count_command.CallRefusal.TheVariants as call;
 ghost use Rattle.suite_plan.specs.declared.conf_file.ConfRefusal.{ConfRefusal as AConfRefusal};
 ghost use Rattle.suite_plan.specs.declared.conf_file.ConfRefusal.TheVariants as conf;
-ghost use Rattle.suite_plan.specs.declared.listing.ListingRefusal.{ListingRefusal as AListingRefusal};
-ghost use Rattle.suite_plan.specs.declared.listing.ListingRefusal.TheVariants as listing;
+ghost use Rattle.suite_plan.specs.declared.test_listing.ListingRefusal.{ListingRefusal as AListingRefusal};
+ghost use Rattle.suite_plan.specs.declared.test_listing.ListingRefusal.TheVariants as listing;
 ghost use Rattle.suite_plan.specs.declared.load_list.ListRefusal.{ListRefusal as AListRefusal};
 ghost use Rattle.suite_plan.specs.declared.pattern_list.PatternListRefusal.{PatternListRefusal as APatternListRefusal};
 ghost use Rattle.suite_plan.specs.declared.patterns.Compiled.{Compiled as ACompiled};
@@ -42,7 +42,7 @@ ghost use Rattle.testr_conf.specs.Settings.{Settings};
 ghost use Rattle.testr_conf.specs.declared.fault.JobFault.{JobFault as AJobFault};
 ghost use Rattle.testr_conf.specs.declared.fault.JobFault.TheVariants as job;
 ghost use Rattle.testr_commands.specs.ExactSuite.{Comes, NextMeets, IsNamedBad, ListEnds, IsListAbsent, IsListTooLong, IsNoId, PatternsEnd, IsPatternsAbsent, IsPatternsTooLong, IsNoText, IsBadLine};
-ghost use Rattle.command_steps.specs.Selecting.{HandsIds, MakesJobs, NamesIds, asked_of};
+ghost use Rattle.command_steps.specs.Selecting.{HandsIds, MakesJobs, NamesIds, ids_of_shares};
 
 /// Where the cause of a named refusal of a step of `run` or `list-tests` is there, the step refuses by that name, unless a
 /// call failed or memory was wanting before. That it comes only there is what the step itself says. So each comes exactly
@@ -77,7 +77,7 @@ pub fn suite_refusals_are_exact()
     ensures listing_failed { (settings : Settings) (before after : Seen Spawning) (result : Result Ids AListingRefusal) → ListsTests settings before after result
         → (status : ℤ) (said : List ℕ) → IsOk (list_job_of settings) → NextMeets (HasFailed status said) before → Comes (listing.Failed status said) listing.Spawn listing.NoMemory result }
     ensures long_id { (shares : Option (List Ids)) (result : Result (Unit {0}) ALongId) → NamesIds shares result
-        → (AreAllShort (asked_of shares) → ⊥) → IsErr result }
+        → (AreAllShort (ids_of_shares shares) → ⊥) → IsErr result }
     ensures no_option { (settings : Settings) (shares : Option (List Ids)) (fault : AJobFault) (result : Result (List AJob) AJobFault) → MakesJobs settings shares result
         → lane_jobs settings shares ≡ Err fault → (result ≡ Err fault) ⊎ (result ≡ Err job.NoMemory) }
     ensures no_id_option { (settings : Settings) (fault : AJobFault) (result : Result (Unit {0}) AJobFault) → HandsIds true settings result

@@ -5,12 +5,12 @@ use Rattle.std.proofs.lemmas.List.Elements.{filter-append}
 use Rattle.std.proofs.lemmas.Bool.{cond-true, cond-false, eqb-true, false_from_ne_true}
 use Rattle.bstr.specs.Text.{lines_of}
 use Rattle.bstr.proofs.lemmas.LengthLemmas.{length-lines_of}
-use Rattle.testr_conf.specs.White.{has_bytes}
 use Rattle.testr_conf.specs.Lines.{is_plain_line}
-use Rattle.testr_conf.specs.ListedIds.{entry_of, entries_of, first_other, unless_other, texts_in, number_of_entry, line_of_pattern}
+use Rattle.testr_conf.specs.ListedIds.{entry_of, entries_of, first_other, unless_other, listed_texts, number_of_entry, line_of_pattern}
 use Rattle.testr_conf.specs.declared.ids.IdsFault.{IdsFault}
 use Rattle.testr_conf.specs.declared.ids.IdsFault.TheVariants.{NotText, NoMemory}
 use Rattle.sub_number.specs.Texts.{IsShortText}
+use Rattle.sub_number.specs.Lines.{has_bytes}
 use Rattle.testr_conf.proofs.TextLemmas.{text_from_test, test_from_text, text_nil}
 use Rattle.testr_conf.proofs.PartLemmas.{first_size, lines_size}
 
@@ -66,7 +66,7 @@ module _ (comments : Bool) (text : List ℕ) (lines rest : List (List ℕ)) (lin
     room = omega (arith, h.room, first_size lines rest line first);
   }
 
-  pub listed_refused : (fault : IdsFault) → ((is_plain_line entry ≡ false) × (fault ≡ NotText (number + 1))) ⊎ (fault ≡ NoMemory) → (texts_in comments text ≡ Err fault) ⊎ (fault ≡ NoMemory)
+  pub listed_refused : (fault : IdsFault) → ((is_plain_line entry ≡ false) × (fault ≡ NotText (number + 1))) ⊎ (fault ≡ NoMemory) → (listed_texts comments text ≡ Err fault) ⊎ (fault ≡ NoMemory)
   listed_refused fault reason =
       ⊎_elim
       (λ other. inl

@@ -5,7 +5,7 @@ use Rattle.std.specs.Str.{bytes_eq}
 use Rattle.std.proofs.lemmas.Bool.{false≢true, and_parts}
 use Rattle.std.proofs.lemmas.Option.{same_Some}
 use Rattle.std.proofs.lemmas.Slice.Eq.{bytes_eq-Decides}
-use Rattle.testr_conf.specs.Names.{key_name, names_of, named, has_name}
+use Rattle.testr_conf.specs.Names.{key_name, dialect_names, named, has_name}
 use Rattle.testr_conf.specs.declared.name.Dialect.{Dialect}
 use Rattle.testr_conf.specs.declared.name.Dialect.TheVariants.{Testr, Stestr}
 use Rattle.testr_conf.specs.declared.name.Name.{Name}
@@ -24,12 +24,12 @@ found_passes p q (y ∷ ys) x all found =
         (subst (λ z. p z ≡ true) same is, subst (λ z. q z ≡ true) same has)
     by false is has later here = later here
 
-all_had : (dialect : Dialect) → list_all (has_name dialect) (names_of dialect) ≡ true
+all_had : (dialect : Dialect) → list_all (has_name dialect) (dialect_names dialect) ≡ true
 all_had Testr = refl
 all_had Stestr = refl
 
 named_parts : (dialect : Dialect) (key : List ℕ) (name : Name) → named dialect key ≡ Some name → (bytes_eq key (key_name name) ≡ true) × (has_name dialect name ≡ true)
-named_parts dialect key name is = found_passes (λ n. bytes_eq key (key_name n)) (has_name dialect) (names_of dialect) name (all_had dialect) is
+named_parts dialect key name is = found_passes (λ n. bytes_eq key (key_name n)) (has_name dialect) (dialect_names dialect) name (all_had dialect) is
 
 pub named_key : (dialect : Dialect) (key : List ℕ) (name : Name) → named dialect key ≡ Some name → key ≡ key_name name
 named_key dialect key name is = (bytes_eq-Decides key (key_name name)).0 (named_parts dialect key name is).0

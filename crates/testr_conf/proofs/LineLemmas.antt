@@ -4,9 +4,10 @@ use Rattle.std.specs.List.{list_any, position_or_len, before_first}
 use Rattle.std.specs.Char.{to_ascii_lowercase}
 use Rattle.std.proofs.lemmas.List.{length-map, take_rest}
 use Rattle.std.proofs.lemmas.Bool.{cond-true, cond-false, and_from, and_left, lt-ltb, eqb-false, false_from_ne_true}
-use Rattle.testr_conf.specs.White.{trimmed, has_bytes}
+use Rattle.testr_conf.specs.White.{trimmed}
 use Rattle.sub_number.specs.Texts.{IsText}
-use Rattle.testr_conf.specs.Lines.{Line, bad, setting, is_sign, is_plain_line, setting_key, setting_line, conf_line_of, text_line, ended_line_of, strip_last_byte}
+use Rattle.sub_number.specs.Lines.{has_bytes}
+use Rattle.testr_conf.specs.Lines.{ConfLine, bad, setting, is_sign, is_plain_line, setting_key, setting_line, conf_line_of, text_line, ended_line_of, strip_last_byte}
 use Rattle.testr_conf.proofs.TextLemmas.{text_from_test, test_from_text}
 use Rattle.testr_conf.proofs.SearchLemmas.{any_none, any_some}
 
@@ -38,7 +39,7 @@ module _ (line cut text : List ℕ) (first : cut ≡ strip_last_byte 10 line) (s
   both : text ≡ strip_last_byte 13 (strip_last_byte 10 line)
   both = second ∙ ap (strip_last_byte 13) first
 
-  pub read_text : (kind : Line) → IsText text → kind ≡ text_line text (trimmed text) → kind ≡ ended_line_of line
+  pub read_text : (kind : ConfLine) → IsText text → kind ≡ text_line text (trimmed text) → kind ≡ ended_line_of line
   read_text kind is_a_text e = e ∙ sym (cond-true (is_plain_line text) (text_line text (trimmed text)) bad (test_from_text text is_a_text)) ∙ ap conf_line_of both
 
   pub read_bad : (IsText text → ⊥) → bad ≡ ended_line_of line

@@ -8,8 +8,9 @@ use Rattle.bstr.specs.Text.{lines_of}
 use Rattle.bstr.proofs.lemmas.LengthLemmas.{length-lines_of}
 use Rattle.bstr.proofs.lemmas.RestLemmas.{concat-lines_of}
 use Rattle.sub_number.specs.Texts.{IsText}
-use Rattle.testr_conf.specs.White.{front_trimmed, trimmed, has_bytes}
-use Rattle.testr_conf.specs.Lines.{Line, bad, skipped, more, section, setting, is_sign, is_plain_line, is_comment_sign, is_indent, is_bracket, begins_by, setting_key, section_line, setting_line, text_line, strip_last_byte, ended_line_of, is_deeper, line_behind}
+use Rattle.sub_number.specs.Lines.{has_bytes}
+use Rattle.testr_conf.specs.White.{front_trimmed, trimmed}
+use Rattle.testr_conf.specs.Lines.{ConfLine, bad, skipped, more, section, setting, is_sign, is_plain_line, is_comment_sign, is_indent, is_open_bracket, begins_by, setting_key, section_line, setting_line, text_line, strip_last_byte, ended_line_of, is_deeper, placed_line}
 use Rattle.testr_conf.specs.Parts.{FitsWithin}
 use Rattle.testr_conf.proofs.SearchLemmas.{any_none}
 use Rattle.testr_conf.proofs.TextLemmas.{text_behind, text_from_test}
@@ -39,11 +40,11 @@ module _ (line : List ℕ) (size : ℕ) (text : IsText line) (short : length lin
   text_fits : FitsWithin (text_line line (trimmed line)) size
   text_fits =
       cond_both (not (has_bytes (trimmed line)) || begins_by is_comment_sign (trimmed line)) skipped
-      (cond (begins_by is_indent line) (more (length line - length (front_trimmed line)) (trimmed line) line) (cond (begins_by is_bracket line) (section_line (drop 1 (trimmed line))) (setting_line line))) (λ k. FitsWithin k size)
+      (cond (begins_by is_indent line) (more (length line - length (front_trimmed line)) (trimmed line) line) (cond (begins_by is_open_bracket line) (section_line (drop 1 (trimmed line))) (setting_line line))) (λ k. FitsWithin k size)
       (λ none. tt)
-      (λ some. cond_both (begins_by is_indent line) (more (length line - length (front_trimmed line)) (trimmed line) line) (cond (begins_by is_bracket line) (section_line (drop 1 (trimmed line))) (setting_line line)) (λ k. FitsWithin k size)
+      (λ some. cond_both (begins_by is_indent line) (more (length line - length (front_trimmed line)) (trimmed line) line) (cond (begins_by is_open_bracket line) (section_line (drop 1 (trimmed line))) (setting_line line)) (λ k. FitsWithin k size)
       (λ indent. ((trimmed_text line text, omega (arith, trimmed_short line)), (text, short)))
-      (λ other. cond_both (begins_by is_bracket line) (section_line (drop 1 (trimmed line))) (setting_line line) (λ k. FitsWithin k size)
+      (λ other. cond_both (begins_by is_open_bracket line) (section_line (drop 1 (trimmed line))) (setting_line line) (λ k. FitsWithin k size)
       (λ bracket. cond_both (ends_with nat_eq (drop 1 (trimmed line)) (93 ∷ [])) (section (take (length (drop 1 (trimmed line)) - 1) (drop 1 (trimmed line)))) bad (λ k. FitsWithin k size) (λ a. tt) (λ b. tt))
       (λ plain. setting_fits)))
 
@@ -61,7 +62,7 @@ line_fits_within line size short =
     (λ fails. tt)
 
 -- the same of a line behind others
-behind_fits : (above : Option ℕ) (kind : Line) (size : ℕ) → FitsWithin kind size → FitsWithin (line_behind above kind) size
+behind_fits : (above : Option ℕ) (kind : ConfLine) (size : ℕ) → FitsWithin kind size → FitsWithin (placed_line above kind) size
 behind_fits above (section name) size fits = fits
 behind_fits above (setting key own) size fits = fits
 behind_fits above skipped size fits = fits
@@ -70,7 +71,7 @@ behind_fits above (more depth text line) size fits =
     cond_both (is_deeper depth above) (more depth text line) (setting_line line) (λ k. FitsWithin k size) (λ deeper. fits) (λ other. setting_fits line size fits.1.0 fits.1.1)
 
 -- the same of a line as it was read
-pub read_fits : (above : Option ℕ) (kind : Line) (line : List ℕ) (size : ℕ) → kind ≡ line_behind above (ended_line_of line) → length line ≤ size → FitsWithin kind size
+pub read_fits : (above : Option ℕ) (kind : ConfLine) (line : List ℕ) (size : ℕ) → kind ≡ placed_line above (ended_line_of line) → length line ≤ size → FitsWithin kind size
 read_fits above kind line size is short = subst (λ k. FitsWithin k size) (sym is) (behind_fits above (ended_line_of line) size (line_fits_within line size short))
 
 -- How many bytes are left.

@@ -12,7 +12,7 @@ use Rattle.memchr.specs.Find.{IsFirstByte, is_byte}
 use Rattle.sub_number.specs.Texts.{IsText}
 use Rattle.testr_conf.specs.declared.variable.Variable.{Variable}
 use Rattle.testr_conf.specs.declared.variable.Variable.TheVariants.{IdOption, IdFile, IdList, ListOption}
-use Rattle.testr_conf.specs.Variables.{CommandPiece, byte, variable, variable_name, variables, variable_at, piece_at, rest_of_name, pieces_behind, command_pieces, is_variable, has_variable, Values, variable_value, in_place, filled}
+use Rattle.testr_conf.specs.Variables.{CommandPiece, byte, variable, variable_name, variables, variable_at, command_piece_at, rest_of_name, pieces_behind, command_pieces, is_variable, has_variable, Values, variable_value, in_place, filled}
 use Rattle.testr_conf.specs.Filled.{FirstVariable, AreTextValues}
 use Rattle.testr_conf.proofs.TextLemmas.{text_before, text_behind, text_append}
 
@@ -21,7 +21,7 @@ no_name : (b : ℕ) (text : List ℕ) → nat_eq 36 b ≡ false → variable_at 
 no_name b text other = rw other refl
 
 plain_byte : (b : ℕ) (text : List ℕ) → variable_at (b ∷ text) ≡ None → command_pieces (b ∷ text) ≡ byte b ∷ command_pieces text
-plain_byte b text none = ap (λ v. piece_at v b ∷ pieces_behind (rest_of_name v) text) none
+plain_byte b text none = ap (λ v. command_piece_at v b ∷ pieces_behind (rest_of_name v) text) none
 
 plain_front : (xs ys : List ℕ) → ((k : ℕ) → k < length xs → get_or xs k 0 ≡ 36 → ⊥) → command_pieces (xs ++ ys) ≡ map byte xs ++ command_pieces ys
 plain_front [] ys none = refl
@@ -42,7 +42,7 @@ drop_name ListOption b text = refl
 
 variable_front : (b : ℕ) (text : List ℕ) (v : Variable) → variable_at (b ∷ text) ≡ Some v → command_pieces (b ∷ text) ≡ variable v ∷ command_pieces (drop (length (variable_name v)) (b ∷ text))
 variable_front b text v some =
-    ap (λ o. piece_at o b ∷ pieces_behind (rest_of_name o) text) some
+    ap (λ o. command_piece_at o b ∷ pieces_behind (rest_of_name o) text) some
     ∙ ap (λ ps. variable v ∷ ps) (skipped (length (variable_name v) - 1) text ∙ ap command_pieces (drop_name v b text))
 
 name_long : (v : Variable) → 0 < length (variable_name v)

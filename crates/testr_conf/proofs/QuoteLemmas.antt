@@ -6,7 +6,7 @@ use Rattle.std.proofs.lemmas.List.{append-nil, get_or_at}
 use Rattle.std.proofs.lemmas.List.Concat.{flat_map-append}
 use Rattle.std.proofs.lemmas.List.Folds.{list_any-append}
 use Rattle.sub_number.specs.Texts.{IsText}
-use Rattle.testr_conf.specs.Jobs.{quoted_byte, quoted}
+use Rattle.testr_conf.specs.Jobs.{quoted_byte, single_quoted}
 use Rattle.testr_conf.proofs.TextLemmas.{text_append, text_one, text_before, text_behind}
 
 abbrev is_quote : ℕ → Bool
@@ -64,8 +64,8 @@ quoted_behind (b ∷ word) front text none = by (b == 39) (λ f t n. quoted_behi
         (text_append front (escaped ++ flat_map quoted_byte word) before (text_append escaped (flat_map quoted_byte word) escaped_text (later [] behind refl)))
 
 -- a space, and a word between single quotes
-pub argument_text : (word : List ℕ) → IsText word → IsText (32 ∷ quoted word)
+pub argument_text : (word : List ℕ) → IsText word → IsText (32 ∷ single_quoted word)
 argument_text word text =
-    text_append (32 ∷ []) (quoted word) (text_one 32 (omega arith) (omega arith))
+    text_append (32 ∷ []) (single_quoted word) (text_one 32 (omega arith) (omega arith))
     (text_append (39 ∷ []) (flat_map quoted_byte word ++ 39 ∷ []) (text_one 39 (omega arith) (omega arith))
     (text_append (flat_map quoted_byte word) (39 ∷ []) (quoted_behind word [] text refl) (text_one 39 (omega arith) (omega arith))))

@@ -6,8 +6,9 @@ use Rattle.std.proofs.lemmas.List.Sums.{fails_before_first, passes_at_first}
 use Rattle.std.proofs.lemmas.List.Elements.{filter-append}
 use Rattle.std.proofs.lemmas.List.{take_rest}
 use Rattle.bstr.specs.Bytes.{is_in}
+use Rattle.sub_number.specs.Lines.{has_bytes}
 use Rattle.testr_conf.proofs.TrimLemmas.{gap_small}
-use Rattle.testr_conf.specs.White.{is_gap, has_bytes, words_of}
+use Rattle.testr_conf.specs.White.{is_gap, words_of}
 
 pub words_first : (text : List ℕ) (at : ℕ) → at ≡ position_or_len is_gap text → at < length text
     → words_of text ≡ filter has_bytes (take at text ∷ []) ++ words_of (drop (at + 1) text)

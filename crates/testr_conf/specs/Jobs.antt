@@ -41,12 +41,12 @@ abbrev pub quoted_byte : ℕ → List ℕ
 quoted_byte byte = if byte == 39 then codes "'\\''" else byte ∷ []
 
 -- a word between single quotes
-abbrev pub quoted : List ℕ → List ℕ
-quoted word = 39 ∷ flat_map quoted_byte word ++ 39 ∷ []
+abbrev pub single_quoted : List ℕ → List ℕ
+single_quoted word = 39 ∷ flat_map quoted_byte word ++ 39 ∷ []
 
 -- each word between single quotes, behind a space
 abbrev pub arguments_text : List (List ℕ) → List ℕ
-arguments_text words = flat_map (λ word. 32 ∷ quoted word) words
+arguments_text words = flat_map (λ word. 32 ∷ single_quoted word) words
 
 -- the job, with these words behind its command
 abbrev pub followed_by : List (List ℕ) → Job → Job

@@ -2,7 +2,8 @@
 use Rattle.std.specs.Prelude.{ℕ, ◌+◌, ◌-◌, ◌==◌, Bool, true, false, Option, None, Some, Result, Ok, Err, List, [], ◌∷◌, map, if◌then◌else◌}
 use Rattle.std.specs.List.{filter, before_first}
 use Rattle.bstr.specs.Text.{lines_of}
-use Rattle.testr_conf.specs.White.{trimmed, has_bytes}
+use Rattle.sub_number.specs.Lines.{has_bytes}
+use Rattle.testr_conf.specs.White.{trimmed}
 use Rattle.testr_conf.specs.Lines.{is_plain_line}
 use Rattle.testr_conf.specs.declared.ids.IdsFault.{IdsFault}
 use Rattle.testr_conf.specs.declared.ids.IdsFault.TheVariants.{NotText}
@@ -32,16 +33,16 @@ unless_other None texts = Ok texts
 unless_other (Some number) texts = Err (NotText number)
 
 -- the entries that are not empty, where all are texts; lines are counted from 1
-abbrev pub texts_in : (comments : Bool) → List ℕ → Result (List (List ℕ)) IdsFault
-texts_in comments text = unless_other (first_other 1 (entries_of comments text)) (filter has_bytes (entries_of comments text))
+abbrev pub listed_texts : (comments : Bool) → List ℕ → Result (List (List ℕ)) IdsFault
+listed_texts comments text = unless_other (first_other 1 (entries_of comments text)) (filter has_bytes (entries_of comments text))
 
 -- a list of ids has no comments
 abbrev pub ids_in : List ℕ → Result (List (List ℕ)) IdsFault
-ids_in text = texts_in false text
+ids_in text = listed_texts false text
 
 -- a list of patterns has
 abbrev pub patterns_in : List ℕ → Result (List (List ℕ)) IdsFault
-patterns_in text = texts_in true text
+patterns_in text = listed_texts true text
 
 -- the number of the entry that has this index among those that are not empty, where the first entry has this number
 abbrev pub number_of_entry : (number index : ℕ) → List (List ℕ) → ℕ

@@ -23,13 +23,13 @@ key_name TopDir = codes "top_dir"
 key_name ParallelClass = codes "parallel_class"
 
 -- the names whose keys a file of this dialect has
-abbrev pub names_of : Dialect → List Name
-names_of Testr = Command ∷ IdOption ∷ ListOption ∷ IdList ∷ Concurrency ∷ GroupRegex ∷ FilterTags ∷ []
-names_of Stestr = TestPath ∷ TopDir ∷ GroupRegex ∷ ParallelClass ∷ []
+abbrev pub dialect_names : Dialect → List Name
+dialect_names Testr = Command ∷ IdOption ∷ ListOption ∷ IdList ∷ Concurrency ∷ GroupRegex ∷ FilterTags ∷ []
+dialect_names Stestr = TestPath ∷ TopDir ∷ GroupRegex ∷ ParallelClass ∷ []
 
 -- the name whose key this is in a file of this dialect, if any
 abbrev pub named : Dialect → List ℕ → Option Name
-named dialect key = find (λ name. bytes_eq key (key_name name)) (names_of dialect)
+named dialect key = find (λ name. bytes_eq key (key_name name)) (dialect_names dialect)
 
 -- a file of this dialect has the key of this name
 abbrev pub has_name : Dialect → Name → Bool

@@ -6,9 +6,9 @@ use Rattle.testr_conf.specs.declared.line.Line.{Line}
 use Rattle.testr_conf.specs.declared.line.Line.TheVariants.{Bad, Skipped, More, Section, Setting}
 
 -- the key is compared as if its letters were small
-abbrev pub seen : Line → spec.Line
-seen Bad = spec.bad
-seen Skipped = spec.skipped
-seen (More depth text line) = spec.more depth text.now line.now
-seen (Section name) = spec.section name.now
-seen (Setting key value) = spec.setting (map to_ascii_lowercase key.now) value.now
+abbrev pub conf_line_meant : Line → spec.ConfLine
+conf_line_meant Bad = spec.bad
+conf_line_meant Skipped = spec.skipped
+conf_line_meant (More depth text line) = spec.more depth text.now line.now
+conf_line_meant (Section name) = spec.section name.now
+conf_line_meant (Setting key value) = spec.setting (map to_ascii_lowercase key.now) value.now

@@ -6,7 +6,7 @@ use Rattle.std.specs.Str.{bytes_eq}
 use Rattle.testr_conf.specs.White.{words_of}
 use Rattle.testr_conf.specs.Names.{key_name, machine_name, named}
 use Rattle.testr_conf.specs.Values.{is_unfit}
-use Rattle.testr_conf.specs.Lines.{Line, bad, skipped, more, section, setting, conf_lines}
+use Rattle.testr_conf.specs.Lines.{ConfLine, bad, skipped, more, section, setting, conf_lines}
 use Rattle.testr_conf.specs.declared.name.Dialect.{Dialect}
 use Rattle.testr_conf.specs.declared.name.Dialect.TheVariants.{Testr, Stestr}
 use Rattle.testr_conf.specs.declared.name.Name.TheVariants.{Command, IdOption, ListOption, IdList, Concurrency, GroupRegex, FilterTags}
@@ -18,7 +18,7 @@ use Rattle.testr_conf.specs.declared.fault.MachineKey.TheVariants.{Provision, Ex
 -- Which section a line stands in.
 
 -- the name of the last section line, where this line comes behind one of this name
-abbrev pub section_after : Option (List ℕ) → Line → Option (List ℕ)
+abbrev pub section_after : Option (List ℕ) → ConfLine → Option (List ℕ)
 section_after last (section name) = Some name
 section_after last (setting key own) = last
 section_after last (more depth text line) = last
@@ -26,7 +26,7 @@ section_after last skipped = last
 section_after last bad = last
 
 -- the section that the lines leave open
-abbrev pub section_of : List Line → Option (List ℕ)
+abbrev pub section_of : List ConfLine → Option (List ℕ)
 section_of lines = fold section_after None lines
 
 -- the section is `DEFAULT`
@@ -42,7 +42,7 @@ pub record Setting : Type 0 where
   pub value : List ℕ
 
 -- a line that does not end the setting above it
-abbrev pub is_inner : Line → Bool
+abbrev pub is_inner : ConfLine → Bool
 is_inner (section name) = false
 is_inner (setting key own) = false
 is_inner (more depth text line) = true
@@ -50,19 +50,19 @@ is_inner skipped = true
 is_inner bad = false
 
 -- what a line adds to the setting above it
-abbrev pub added_text : Line → List ℕ
-added_text (section name) = []
-added_text (setting key own) = []
-added_text (more depth text line) = 10 ∷ text
-added_text skipped = []
-added_text bad = []
+abbrev pub continued_text : ConfLine → List ℕ
+continued_text (section name) = []
+continued_text (setting key own) = []
+continued_text (more depth text line) = 10 ∷ text
+continued_text skipped = []
+continued_text bad = []
 
 -- its own value, and each continuation below it, joined by newlines
-abbrev pub value_above : List ℕ → List Line → List ℕ
-value_above own lines = own ++ flat_map added_text (take_while is_inner lines)
+abbrev pub value_above : List ℕ → List ConfLine → List ℕ
+value_above own lines = own ++ flat_map continued_text (take_while is_inner lines)
 
 -- the settings of `[DEFAULT]` among the lines, in order, where the lines stand behind this section line
-abbrev pub settings_from : Option (List ℕ) → List Line → List Setting
+abbrev pub settings_from : Option (List ℕ) → List ConfLine → List Setting
 settings_from last [] = []
 settings_from last (section name ∷ lines) = settings_from (Some name) lines
 settings_from last (setting key own ∷ lines) =
@@ -73,7 +73,7 @@ settings_from last (skipped ∷ lines) = settings_from last lines
 settings_from last (bad ∷ lines) = settings_from last lines
 
 -- the settings of the section `DEFAULT`
-abbrev pub settings_of : List Line → List Setting
+abbrev pub settings_of : List ConfLine → List Setting
 settings_of lines = settings_from None lines
 
 -- The refusals.
@@ -83,7 +83,7 @@ abbrev pub has_key : List ℕ → List Setting → Bool
 has_key key settings = list_any (λ s. bytes_eq s.key key) settings
 
 -- one of the file's keys, a second time in `[DEFAULT]`
-abbrev pub is_repeated : Dialect → List ℕ → List Line → Bool
+abbrev pub is_repeated : Dialect → List ℕ → List ConfLine → Bool
 is_repeated dialect key before = is_default (section_of before) && is_some (named dialect key) && has_key key (settings_of before)
 
 -- which key of machines this is, if any; a file of stestr has none
@@ -113,7 +113,7 @@ abbrev pub fault_if : Bool → ConfFault → Option ConfFault
 fault_if reason fault = if reason then Some fault else None
 
 -- why a line is refused between those before it and those below, with its number; lines are counted from 1
-abbrev pub fault_of : Dialect → (before : List Line) → Line → (below : List Line) → Option ConfFault
+abbrev pub fault_of : Dialect → (before : List ConfLine) → ConfLine → (below : List ConfLine) → Option ConfFault
 fault_of dialect before (section name) below = None
 fault_of dialect before (setting key own) below =
     if is_none (section_of before) then Some (NoSection (length before + 1))
@@ -125,7 +125,7 @@ fault_of dialect before skipped below = None
 fault_of dialect before bad below = Some (BadLine (length before + 1))
 
 -- why the first line that is refused is refused, behind those before it
-abbrev pub first_fault : Dialect → (before : List Line) → List Line → Option ConfFault
+abbrev pub first_fault : Dialect → (before : List ConfLine) → List ConfLine → Option ConfFault
 first_fault dialect before [] = None
 first_fault dialect before (line ∷ lines) = or_later (fault_of dialect before line lines) (first_fault dialect (before ++ line ∷ []) lines)
 
@@ -184,7 +184,7 @@ unless_refused None said = said
 unless_refused (Some fault) said = Err fault
 
 -- The first line that is refused decides; where none is, `test_command` has to be set.
-abbrev pub conf_of_lines : List Line → Result Settings ConfFault
+abbrev pub conf_of_lines : List ConfLine → Result Settings ConfFault
 conf_of_lines lines =
     unless_refused (first_fault Testr [] lines) (with_command (set_of (key_name Command) (settings_of lines)) (settings_of lines))
 

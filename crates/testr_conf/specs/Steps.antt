@@ -1,6 +1,6 @@
 -- The lines one after another, as the code reads them.
 use Rattle.std.specs.Prelude.{◌≡◌, ℕ, Bool, false, Option, None, Some, is_some, List, [], Result, Ok, Err, if◌then◌else◌}
-use Rattle.testr_conf.specs.Lines.{Line, bad, skipped, more, section, setting}
+use Rattle.testr_conf.specs.Lines.{ConfLine, bad, skipped, more, section, setting}
 use Rattle.std.specs.Option.{option_map}
 use Rattle.testr_conf.specs.Settings.{Setting, Settings, section_of, is_default, value_above, machine_key, or_later, fault_if, unless_empty, words_in}
 use Rattle.testr_conf.specs.Names.{named}
@@ -17,14 +17,14 @@ use Rattle.testr_conf.specs.declared.line_reader.Place.TheVariants.{Nowhere, Def
 use Rattle.testr_conf.specs.declared.line_reader.Reading.{Reading}
 
 -- where a line stands that comes behind this section line
-abbrev pub place_behind : Option (List ℕ) → Place
-place_behind None = Nowhere
-place_behind (Some name) = if is_default (Some name) then Default else Elsewhere
+abbrev pub place_in_section : Option (List ℕ) → Place
+place_in_section None = Nowhere
+place_in_section (Some name) = if is_default (Some name) then Default else Elsewhere
 
 -- what is known behind these lines, whose settings are these
-abbrev pub reading_of : Dialect → List Line → List Setting → Reading
+abbrev pub reading_of : Dialect → List ConfLine → List Setting → Reading
 reading_of dialect before settings =
-    record { dialect = dialect; place = place_behind (section_of before); found = found_of dialect settings }
+    record { dialect = dialect; place = place_in_section (section_of before); found = found_of dialect settings }
 
 -- a key that is used has its value already
 abbrev pub is_taken : Option Name → Found → Bool
@@ -40,7 +40,7 @@ setting_fault Default number machine taken unfit =
 setting_fault Elsewhere number machine taken unfit = None
 
 -- why the line is refused in front of these, where so much is known
-abbrev pub fault_at : Reading → ℕ → Line → (below : List Line) → Option ConfFault
+abbrev pub fault_at : Reading → ℕ → ConfLine → (below : List ConfLine) → Option ConfFault
 fault_at reading number (section name) below = None
 fault_at reading number (setting key own) below =
     setting_fault reading.place number (machine_key reading.dialect key) (is_taken (named reading.dialect key) reading.found)
@@ -57,8 +57,8 @@ kept Default None value found = found
 kept Default (Some name) value found = with_value name value found
 
 -- what is known behind the line then, in front of these lines
-abbrev pub known_after : Reading → Line → List Line → Reading
-known_after reading (section name) below = record reading { place = place_behind (Some name) }
+abbrev pub known_after : Reading → ConfLine → List ConfLine → Reading
+known_after reading (section name) below = record reading { place = place_in_section (Some name) }
 known_after reading (setting key own) below =
     record reading { found = kept reading.place (named reading.dialect key) (value_above own below) reading.found }
 known_after reading (more depth text line) below = reading
@@ -66,7 +66,7 @@ known_after reading skipped below = reading
 known_after reading bad below = reading
 
 -- the line is not refused, and this is what is known behind it
-pub record Takes (old new : Reading) (number : ℕ) (line : Line) (below : List Line) : Type 0 where
+pub record TakesConfLine (old new : Reading) (number : ℕ) (line : ConfLine) (below : List ConfLine) : Type 0 where
   pub fine : fault_at old number line below ≡ None
   pub known : new ≡ known_after old line below
 

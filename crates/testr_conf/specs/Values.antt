@@ -1,19 +1,11 @@
 -- The values that the keys of stestr may have (docs/FORMATS.md, "`.stestr.conf` and `pyproject.toml`").
-use Rattle.std.specs.Prelude.{ℕ, Bool, false, not, ◌&&◌, ◌||◌, ◌==◌, Option, Some, None, List, map, codes}
+use Rattle.std.specs.Prelude.{ℕ, Bool, false, not, ◌&&◌, ◌||◌, Option, Some, None, List, map, codes}
 use Rattle.std.specs.Char.{to_ascii_lowercase}
-use Rattle.std.specs.List.{list_any}
 use Rattle.std.specs.Str.{bytes_eq}
-use Rattle.testr_conf.specs.White.{has_bytes}
+use Rattle.sub_number.specs.Lines.{has_bytes}
+use Rattle.sub_number.specs.Quotes.{is_path}
 use Rattle.testr_conf.specs.declared.name.Name.{Name}
 use Rattle.testr_conf.specs.declared.name.Name.TheVariants.{TestPath, TopDir, ParallelClass}
-
--- `"`, `$`, a backslash or a backquote, which a shell reads between double quotes
-abbrev pub is_quote_sign : ℕ → Bool
-is_quote_sign byte = byte == 34 || byte == 36 || byte == 92 || byte == 96
-
--- what stands for itself between double quotes
-abbrev pub is_path : List ℕ → Bool
-is_path value = not (list_any is_quote_sign value)
 
 -- a word in small letters that says yes
 abbrev pub is_small_yes : List ℕ → Bool

@@ -26,9 +26,9 @@ pub data CommandPiece : Type 0 where
   byte : ℕ → CommandPiece
 
 -- the variable that begins here, or the byte that stands here
-abbrev pub piece_at : Option Variable → ℕ → CommandPiece
-piece_at (Some v) b = variable v
-piece_at None b = byte b
+abbrev pub command_piece_at : Option Variable → ℕ → CommandPiece
+command_piece_at (Some v) b = variable v
+command_piece_at None b = byte b
 
 -- how many bytes of its name stand behind the first
 abbrev pub rest_of_name : Option Variable → ℕ
@@ -39,7 +39,7 @@ rest_of_name None = 0
 abbrev pub pieces_behind : ℕ → List ℕ → List CommandPiece
 pieces_behind skip [] = []
 pieces_behind (suc skip) (b ∷ text) = pieces_behind skip text
-pieces_behind zero (b ∷ text) = piece_at (variable_at (b ∷ text)) b ∷ pieces_behind (rest_of_name (variable_at (b ∷ text))) text
+pieces_behind zero (b ∷ text) = command_piece_at (variable_at (b ∷ text)) b ∷ pieces_behind (rest_of_name (variable_at (b ∷ text))) text
 
 -- the command as its variables and the bytes between them
 abbrev pub command_pieces : List ℕ → List CommandPiece

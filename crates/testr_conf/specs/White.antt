@@ -1,6 +1,7 @@
 -- White space, and what stands between it (docs/FORMATS.md, "The configuration").
-use Rattle.std.specs.Prelude.{ℕ, Bool, ◌||◌, ◌==◌, nat_lt, List, [], ◌∷◌, length, reverse, if◌then◌else◌}
+use Rattle.std.specs.Prelude.{ℕ, Bool, ◌||◌, ◌==◌, List, [], ◌∷◌, reverse, if◌then◌else◌}
 use Rattle.std.specs.List.{filter, slice_split}
+use Rattle.sub_number.specs.Lines.{has_bytes}
 
 -- a space, a tab, a carriage return, a vertical tab or a form feed
 abbrev pub is_white : ℕ → Bool
@@ -22,10 +23,6 @@ end_trimmed bytes = reverse (front_trimmed (reverse bytes))
 -- The same at both ends. A line has no newline but at its end.
 abbrev pub trimmed : List ℕ → List ℕ
 trimmed bytes = end_trimmed (front_trimmed bytes)
-
--- there is at least one byte
-abbrev pub has_bytes : List ℕ → Bool
-has_bytes bytes = nat_lt 0 (length bytes)
 
 -- the words between white space and newlines, in order
 abbrev pub words_of : List ℕ → List (List ℕ)

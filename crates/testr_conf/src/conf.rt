@@ -10,10 +10,10 @@ ghost use Rattle.testr_conf.specs.Jobs.{list_job_of, all_job_of, ids_job_by, run
 
 use crate::fault::{ConfFault, JobFault, Key};
 use crate::found_values::Found;
-use crate::job::{follow, id_file, id_path, join_ids, plain_job};
+use crate::job::{append_words, id_file, id_path, join_ids, plain_job};
 use crate::line_reader::read_lines;
 use crate::name::Dialect;
-use crate::variable::{Values, Variable, fill, has_variable};
+use crate::variable::{Values, Variable, fill_variables, has_variable};
 use crate::white_space::read_words;
 use edge_io::Job;
 use packet_codec::Tags;
@@ -142,7 +142,7 @@ impl Conf {
     }
 
     /// The same settings, of a project in the folder of this absolute path.
-    pub fn stand_in(self, folder: String) -> Self
+    pub fn place_in(self, folder: String) -> Self
         ensures { result ≡ settings_in folder.bytes.items self }
     {
         Conf { folder, ..self }
@@ -204,7 +204,7 @@ impl Conf {
             id_list: bytes_or_none(&self.id_list),
             list_option: option.bytes(),
         };
-        Ok(plain_job(fill(alloc, command, &values)?))
+        Ok(plain_job(fill_variables(alloc, command, &values)?))
     }
 
     /// The job that tells how many tests may run at a time, which is `test_run_concurrency` as it is. `None` comes
@@ -253,8 +253,8 @@ impl Conf {
             id_list: bytes_or_none(&self.id_list),
             list_option: b"",
         };
-        let job = plain_job(fill(alloc, self.command.bytes(), &values)?);
-        follow(job, self.arguments.list())
+        let job = plain_job(fill_variables(alloc, self.command.bytes(), &values)?);
+        append_words(job, self.arguments.list())
     }
 
     fn job_of_ids(&self, alloc: Global, ids: &IdList, lane: u32) -> Result<Job, JobFault>
@@ -264,7 +264,7 @@ impl Conf {
         ensures text { IfOk result (λ job. IsText job.command) }
     {
         let job = self.own_job_of_ids(alloc, ids, lane)?;
-        Ok(follow(job, self.arguments.list())?)
+        Ok(append_words(job, self.arguments.list())?)
     }
 
     // The same without words behind it.
@@ -287,12 +287,12 @@ impl Conf {
             id_list: &id_list,
             list_option: b"",
         };
-        let id_option = fill(alloc, bytes_or_none(&self.id_option), &within)?;
+        let id_option = fill_variables(alloc, bytes_or_none(&self.id_option), &within)?;
         let values = Values {
             id_option: &id_option,
             ..within
         };
-        let command = Bytes::from_vec(fill(alloc, command, &values)?);
+        let command = Bytes::from_vec(fill_variables(alloc, command, &values)?);
         Ok(Job {
             command,
             id_file: Some(file),

@@ -2,9 +2,9 @@
 
 ghost use Rattle.std.specs.Prelude.{◌≡◌, ◌<◌, ◌≤◌, ◌⊎◌, false, true, [], ◌∷◌, ◌++◌, length, OnOk, IfOk, IfErr, MatchOption};
 ghost use Rattle.std.specs.List.{filter, before_first, position_or_len};
-ghost use Rattle.testr_conf.specs.White.{has_bytes};
+ghost use Rattle.sub_number.specs.Lines.{has_bytes};
 ghost use Rattle.testr_conf.specs.Lines.{is_plain_line};
-ghost use Rattle.testr_conf.specs.ListedIds.{is_hash, entry_of, texts_in, ids_in, patterns_in, line_of_pattern};
+ghost use Rattle.testr_conf.specs.ListedIds.{is_hash, entry_of, listed_texts, ids_in, patterns_in, line_of_pattern};
 
 use crate::white_space::trim;
 use bstr::ByteSlice;
@@ -71,9 +71,9 @@ pub fn read_patterns(alloc: Global, text: &[u8]) -> Result<IdList, IdsFault>
 // The entries of a list that are not empty, in order.
 fn read_texts(alloc: Global, text: &[u8], comments: bool) -> Result<IdList, IdsFault>
     requires { length text.now ≤ 16777216 }
-    ensures texts { IfOk result (λ texts. texts_in comments text.now ≡ Ok texts) }
-    ensures refused { IfErr result (λ fault. (texts_in comments text.now ≡ Err fault) ⊎ (fault ≡ IdsFault.NoMemory)) }
-    ensures exactly { IfErr (texts_in comments text.now) (λ fault. (result ≡ Err fault) ⊎ (result ≡ Err IdsFault.NoMemory)) }
+    ensures texts { IfOk result (λ texts. listed_texts comments text.now ≡ Ok texts) }
+    ensures refused { IfErr result (λ fault. (listed_texts comments text.now ≡ Err fault) ⊎ (fault ≡ IdsFault.NoMemory)) }
+    ensures exactly { IfErr (listed_texts comments text.now) (λ fault. (result ≡ Err fault) ⊎ (result ≡ Err IdsFault.NoMemory)) }
 {
     let mut texts = IdList::new(alloc);
     let mut lines = text.lines_with_terminator();

@@ -3,7 +3,7 @@
 ghost use Rattle.std.specs.Prelude.{◌≡◌, ◌<◌, ◌∷◌, ◌++◌, true, IfOk, OnOk};
 ghost use Rattle.std.specs.List.{flat_map, list_all};
 ghost use Rattle.sub_number.specs.Texts.{IsText};
-ghost use Rattle.testr_conf.specs.Jobs.{plain_job, id_file_name, id_lines, id_list_of, id_file_of, is_plain_byte, is_plain_path, path_in, quoted_byte, quoted, arguments_text, followed_by};
+ghost use Rattle.testr_conf.specs.Jobs.{plain_job, id_file_name, id_lines, id_list_of, id_file_of, is_plain_byte, is_plain_path, path_in, quoted_byte, single_quoted, arguments_text, followed_by};
 
 use edge_io::{IdFile, Job};
 use itoa::Buffer;
@@ -155,7 +155,7 @@ fn add_quoted_bytes(word: &[u8], command: &mut Vec<u8>) -> Result<(), NoMemory>
 
 // Adds the word between single quotes, behind a space.
 fn add_argument(word: &[u8], command: &mut Vec<u8>) -> Result<(), NoMemory>
-    ensures { OnOk result (command.new.items ≡ command.old.items ++ 32 ∷ quoted word.now) }
+    ensures { OnOk result (command.new.items ≡ command.old.items ++ 32 ∷ single_quoted word.now) }
 {
     command.extend_from_slice(b" '")?;
     add_quoted_bytes(word, command)?;
@@ -176,7 +176,7 @@ fn add_arguments(words: &[Text], command: &mut Vec<u8>) -> Result<(), NoMemory>
 }
 
 // The job, with these words behind its command.
-pub(crate) fn follow(job: Job, words: &[Text]) -> Result<Job, NoMemory>
+pub(crate) fn append_words(job: Job, words: &[Text]) -> Result<Job, NoMemory>
     requires { IsText job.command }
     ensures job { IfOk result (λ followed. followed ≡ followed_by words.now job) }
     ensures text { IfOk result (λ followed. IsText followed.command) }

@@ -2,9 +2,9 @@
 
 ghost use Rattle.std.specs.Prelude.{◌≡◌, ◌<◌, length, drop, MatchOption};
 ghost use Rattle.std.specs.List.{position_or_len};
-ghost use Rattle.testr_conf.specs.Lines.{is_sign, is_deeper, section_line, setting_line, text_line, ended_line_of, strip_last_byte, line_behind, depth_behind};
+ghost use Rattle.testr_conf.specs.Lines.{is_sign, is_deeper, section_line, setting_line, text_line, ended_line_of, strip_last_byte, placed_line, depth_behind};
 ghost use Rattle.testr_conf.specs.White.{trimmed};
-ghost use Rattle.testr_conf.specs.Seen.{seen};
+ghost use Rattle.testr_conf.specs.Seen.{conf_line_meant};
 
 use crate::white_space::{trim, trim_front};
 use memchr::memchr2;
@@ -37,7 +37,7 @@ fn is_deeper(depth: usize, above: Option<usize>) -> bool
 impl<'a> Line<'a> {
     // The line, where the setting above it in its section stands so deep, or there is none.
     pub(crate) fn behind(self, above: Option<usize>) -> Line<'a>
-        ensures { seen result ≡ line_behind above (seen self.entry) }
+        ensures { conf_line_meant result ≡ placed_line above (conf_line_meant self.entry) }
     {
         match self {
             Line::More(depth, _, line) if !is_deeper(depth, above) => read_setting(line),
@@ -47,7 +47,7 @@ impl<'a> Line<'a> {
 
     // How deep the setting stands that is above the next line.
     pub(crate) fn depth_behind(self, above: Option<usize>) -> Option<usize>
-        ensures { result ≡ depth_behind above (seen self.entry) }
+        ensures { result ≡ depth_behind above (conf_line_meant self.entry) }
     {
         match self {
             Line::More(depth, _, _) if !is_deeper(depth, above) => Some(depth),
@@ -70,7 +70,7 @@ pub(crate) fn strip_last_byte(byte: u8, bytes: &[u8]) -> &[u8]
 
 // What the line is, which may end in a newline.
 pub(crate) fn read_line(line: &[u8]) -> Line<'_>
-    ensures { seen result ≡ ended_line_of line.now }
+    ensures { conf_line_meant result ≡ ended_line_of line.now }
 {
     let line = strip_last_byte(b'\r', strip_last_byte(b'\n', line));
     if sub_number::is_text(line) {
@@ -81,7 +81,7 @@ pub(crate) fn read_line(line: &[u8]) -> Line<'_>
 }
 
 fn read_text_line(line: &[u8]) -> Line<'_>
-    ensures { seen result ≡ text_line line.now (trimmed line.now) }
+    ensures { conf_line_meant result ≡ text_line line.now (trimmed line.now) }
 {
     let text = trim(line);
     match (text.first(), line.first()) {
@@ -99,7 +99,7 @@ fn read_text_line(line: &[u8]) -> Line<'_>
 }
 
 fn read_section(text: &[u8]) -> Line<'_>
-    ensures { seen result ≡ section_line (drop 1 text.now) }
+    ensures { conf_line_meant result ≡ section_line (drop 1 text.now) }
 {
     let Some((_, behind)) = text.split_first() else {
         return Line::Bad;
@@ -119,7 +119,7 @@ fn find_sign(line: &[u8]) -> Option<usize>
 }
 
 fn read_setting(line: &[u8]) -> Line<'_>
-    ensures { seen result ≡ setting_line line.now }
+    ensures { conf_line_meant result ≡ setting_line line.now }
 {
     let Some(at) = find_sign(line) else {
         return Line::Bad;

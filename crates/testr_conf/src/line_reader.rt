@@ -5,10 +5,10 @@ ghost use Rattle.sub_number.specs.Texts.{IsText};
 ghost use Rattle.std.specs.Char.{to_ascii_lowercase};
 ghost use Rattle.testr_conf.specs.Lines.{conf_lines, lines_below, setting};
 ghost use Rattle.testr_conf.specs.Parts.{FitsWithin};
-ghost use Rattle.testr_conf.specs.Seen.{seen};
+ghost use Rattle.testr_conf.specs.Seen.{conf_line_meant};
 ghost use Rattle.testr_conf.specs.Settings.{first_fault, settings_of, value_above};
 ghost use Rattle.testr_conf.specs.Keys.{found_of};
-ghost use Rattle.testr_conf.specs.Steps.{place_behind, reading_of, fault_at, Takes};
+ghost use Rattle.testr_conf.specs.Steps.{place_in_section, reading_of, fault_at, TakesConfLine};
 
 use crate::fault::ConfFault;
 use crate::found_values::Found;
@@ -36,7 +36,7 @@ pub(crate) struct Reading {
 }
 
 fn place_of(name: &[u8]) -> Place
-    ensures { result ≡ place_behind (Some name.now) }
+    ensures { result ≡ place_in_section (Some name.now) }
 {
     if name == b"DEFAULT".as_slice() {
         Place::Default
@@ -116,7 +116,7 @@ impl Reading {
         requires default { self.old.place ≡ Place.Default }
         requires own { FitsWithin (setting [] own.now) 16777216 }
         requires below { length below.now ≤ 16777216 }
-        ensures ok { OnOk result (Takes self.old self.new number (setting (map to_ascii_lowercase key.now) own.now) (lines_below depth below.now)) }
+        ensures ok { OnOk result (TakesConfLine self.old self.new number (setting (map to_ascii_lowercase key.now) own.now) (lines_below depth below.now)) }
         ensures err { IfErr result (λ fault. (fault_at self.old number (setting (map to_ascii_lowercase key.now) own.now) (lines_below depth below.now) ≡ Some fault) ⊎ (fault ≡ ConfFault.NoMemory)) }
     {
         if let Some(machine) = read_machine(self.dialect, key) {
@@ -145,10 +145,10 @@ impl Reading {
         depth: Option<usize>,
         below: &[u8],
     ) -> Result<(), ConfFault>
-        requires parts { FitsWithin (seen line) 16777216 }
+        requires parts { FitsWithin (conf_line_meant line) 16777216 }
         requires below { length below.now ≤ 16777216 }
-        ensures ok { OnOk result (Takes self.old self.new number (seen line.entry) (lines_below depth below.now)) }
-        ensures err { IfErr result (λ fault. (fault_at self.old number (seen line.entry) (lines_below depth below.now) ≡ Some fault) ⊎ (fault ≡ ConfFault.NoMemory)) }
+        ensures ok { OnOk result (TakesConfLine self.old self.new number (conf_line_meant line.entry) (lines_below depth below.now)) }
+        ensures err { IfErr result (λ fault. (fault_at self.old number (conf_line_meant line.entry) (lines_below depth below.now) ≡ Some fault) ⊎ (fault ≡ ConfFault.NoMemory)) }
     {
         match (line, self.place) {
             (Line::Bad, _) => Err(ConfFault::BadLine(number)),

@@ -2,7 +2,8 @@
 
 ghost use Rattle.std.specs.Prelude.{◌≡◌, Some};
 ghost use Rattle.std.specs.List.{list_any};
-ghost use Rattle.testr_conf.specs.Values.{is_quote_sign, is_path, is_yes, is_no, is_unfit, says_yes};
+ghost use Rattle.sub_number.specs.Quotes.{is_quote_sign, is_path};
+ghost use Rattle.testr_conf.specs.Values.{is_yes, is_no, is_unfit, says_yes};
 
 use crate::name::Name;
 use sub_number::Text;

@@ -102,7 +102,11 @@ pub(crate) fn has_variable(wanted: Variable, text: &[u8]) -> bool
 }
 
 // The text with each variable replaced, once.
-pub(crate) fn fill(alloc: Global, text: &[u8], values: &Values<'_>) -> Result<Vec<u8>, NoMemory>
+pub(crate) fn fill_variables(
+    alloc: Global,
+    text: &[u8],
+    values: &Values<'_>,
+) -> Result<Vec<u8>, NoMemory>
     requires text { IsText text.now }
     requires values { AreTextValues (seen_values values.now) }
     ensures value { IfOk result (λ out. out.items ≡ filled (seen_values values.now) text.now) }

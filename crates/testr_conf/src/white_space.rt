@@ -3,7 +3,8 @@
 ghost use Rattle.std.specs.Prelude.{◌≡◌, ◌≤◌, ◌<◌, [], ◌∷◌, ◌++◌, length, IfOk, OnOk, MatchOption};
 ghost use Rattle.std.specs.List.{position_or_len, filter};
 ghost use Rattle.sub_number.specs.Texts.{IsShortText};
-ghost use Rattle.testr_conf.specs.White.{is_gap, front_trimmed, end_trimmed, trimmed, has_bytes, words_of};
+ghost use Rattle.sub_number.specs.Lines.{has_bytes};
+ghost use Rattle.testr_conf.specs.White.{is_gap, front_trimmed, end_trimmed, trimmed, words_of};
 
 use bstr::ByteSlice;
 use packet_codec::Tags;

@@ -9,10 +9,10 @@
 use edge_io::write_whole;
 use either::Either;
 use filter_to_file::filters_to_file;
-use help_texts::{Parted, help, part_output, part_words};
+use help_texts::{Parted, help_of_testr, take_folder_words, take_output_words};
 use real_outside::{
     Cause, Errors, FolderShelf, Outlet, RealNewFiles, RealSite, RealSpawner, Sharing, StreamSink,
-    StreamSource, enter, hold_closed,
+    StreamSource, enter_folder, hold_closed,
 };
 use std::alloc::Global;
 use std::env::Env;
@@ -83,7 +83,7 @@ fn run<R: Threads + Wait + Sync>(
     out: &mut StreamSink<Outlet>,
     err: &mut StreamSink<Stderr>,
 ) -> u8 {
-    match part_words(rt.alloc(), words) {
+    match take_folder_words(rt.alloc(), words) {
         Ok(parted) => run_parted(threads, rt, errors, parted, out, err),
         Err(_) => out_of_memory(err),
     }
@@ -100,7 +100,7 @@ fn run_parted<R: Threads + Wait + Sync>(
     err: &mut StreamSink<Stderr>,
 ) -> u8 {
     let alloc = rt.alloc();
-    if let Some(text) = help(&parted.words) {
+    if let Some(text) = help_of_testr(&parted.words) {
         return print_help(alloc, face_of(&parted.words), text, out, err);
     }
     let Parted { mut words, folder } = parted;
@@ -113,7 +113,7 @@ fn run_parted<R: Threads + Wait + Sync>(
     let Some(folder) = &folder else {
         return run_aimed(threads, rt, errors, &words, out, err);
     };
-    match enter(alloc, rt, folder.as_str()) {
+    match enter_folder(alloc, rt, folder.as_str()) {
         Ok(true) => run_aimed(threads, rt, errors, &words, out, err),
         Ok(false) => no_folder(alloc, folder.as_str(), err),
         Err(cause) => {
@@ -203,7 +203,7 @@ fn run_aimed<R: Threads + Wait + Sync>(
     out: &mut StreamSink<Outlet>,
     err: &mut StreamSink<Stderr>,
 ) -> u8 {
-    let Ok(aimed) = part_output(rt.alloc(), words) else {
+    let Ok(aimed) = take_output_words(rt.alloc(), words) else {
         return out_of_memory(err);
     };
     match &aimed.file {

@@ -3,7 +3,7 @@ use Rattle.std.specs.Prelude.{Bool, not, ◌||◌, nat_eq, Option, List, ℕ, le
 use Rattle.testr_words.specs.declared.command.Command.{Command}
 use Rattle.testr_words.specs.declared.command.Face.{Face}
 use Rattle.testr_words.specs.declared.format.FormatKind.{FormatKind}
-use Rattle.testr_words.specs.Shards.{Part}
+use Rattle.testr_words.specs.Shards.{NumberedShard}
 use Rattle.testr_words.specs.declared.command.ProjectWords.{ProjectWords}
 
 -- which tests are wanted, by patterns and a shard
@@ -17,7 +17,7 @@ pub record Wanted : Type 0 where
   -- the file of further patterns of the ids that are left out
   pub exclude_list : Option (List ℕ)
   -- the shard of those that are wanted
-  pub shard : Option Part
+  pub shard : Option NumberedShard
   -- the file of the times that the shard goes by
   pub times : Option (List ℕ)
 
@@ -90,12 +90,12 @@ pub record RunOptions : Type 0 where
 
 -- A run is partial exactly where it is called so, or its tests are chosen: by the failing set, a load list, a pattern, a file
 -- of patterns or a shard.
-abbrev pub is_part : (called failing : Bool) → (load_list : Option (List ℕ)) → Wanted → Bool
-is_part called failing load_list wanted = called || (failing || (is_some load_list || is_choosing wanted))
+abbrev pub runs_in_part : (called failing : Bool) → (load_list : Option (List ℕ)) → Wanted → Bool
+runs_in_part called failing load_list wanted = called || (failing || (is_some load_list || is_choosing wanted))
 
 -- the run that is asked for is partial
 abbrev pub is_partial : RunOptions → Bool
-is_partial options = is_part options.partial options.failing options.load_list options.wanted
+is_partial options = runs_in_part options.partial options.failing options.load_list options.wanted
 
 -- what is said of a load by the command
 abbrev pub load_options : Command → LoadOptions

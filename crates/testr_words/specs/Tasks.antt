@@ -7,11 +7,11 @@ use Rattle.testr_words.specs.declared.command.Verb.TheVariants as verb
 use Rattle.testr_words.specs.declared.command.Command.{Command}
 use Rattle.testr_words.specs.declared.format.FormatKind.{FormatKind}
 use Rattle.testr_words.specs.declared.format.FormatKind.TheVariants.{Plain, Github}
-use Rattle.testr_words.specs.declared.live.LiveKind.{LiveKind}
-use Rattle.testr_words.specs.declared.live.LiveKind.TheVariants.{Nothing}
+use Rattle.testr_words.specs.declared.live_kind.LiveKind.{LiveKind}
+use Rattle.testr_words.specs.declared.live_kind.LiveKind.TheVariants.{Nothing}
 use Rattle.testr_words.specs.declared.command.Question.{Question}
 use Rattle.testr_words.specs.declared.command.Question.TheVariants.{Last, Skips, Notes, Failing, LastFailures, FailurePackets, Slowest, Stats}
-use Rattle.testr_words.specs.declared.drawing.Drawing.{Drawing}
+use Rattle.testr_words.specs.declared.selftest_words.SelfTestWords.{SelfTestWords}
 
 -- what is done for a command
 pub data Task : Type 0 where
@@ -26,7 +26,7 @@ pub data Task : Type 0 where
   -- tests of the project are run
   run : RunOptions → Task
   -- made-up workers are run in memory, and summed up
-  selftest : Drawing → Task
+  selftest : SelfTestWords → Task
   -- a folder of the original tool becomes a repository
   upgrade : Task
 

@@ -2,13 +2,14 @@
 use Rattle.std.specs.Prelude.{Bool, true, false, not, ◌&&◌, ◌||◌, nat_le, nat_lt, nat_eq, ◌==◌, min, is_some, Option, Some, None, List, [], ◌∷◌, ℕ, length, codes, if◌then◌else◌, ◌+◌, take, drop}
 use Rattle.std.specs.Char.{is_ascii_digit}
 use Rattle.std.specs.Fmt.{decimal}
-use Rattle.std.specs.List.{list_all, list_any, flat_map, fold, before_first, after_first, position_or_len}
-use Rattle.std.specs.Option.{option_map, option_to_list}
+use Rattle.std.specs.List.{list_all, flat_map, fold, before_first, after_first, position_or_len}
+use Rattle.std.specs.Option.{option_map}
 use Rattle.std.specs.Str.{bytes_eq}
 use Rattle.std.specs.Str.Parse.{digits_value}
 use Rattle.command_words.specs.declared.table.Kind.{Kind}
 use Rattle.command_words.specs.declared.table.Kind.TheVariants.{Flag, Valued}
-use Rattle.command_words.specs.Items.{Item, flag, valued, name, is_text, has_flag, items_of}
+use Rattle.command_words.specs.Items.{Item, flag, valued, name, is_text, has_flag, items_of, values_in, name_of}
+use Rattle.sub_number.specs.Quotes.{is_path}
 use Rattle.testr_words.specs.declared.values.TheConstants.{MOST_WORKERS}
 use Rattle.testr_words.specs.declared.command.Verb.{Verb}
 use Rattle.testr_words.specs.declared.command.Verb.TheVariants.{Init, Load, Run, Last, Failing, Slowest, Stats, ListTests, SelfTest, Upgrade}
@@ -17,16 +18,16 @@ use Rattle.testr_words.specs.declared.command.ProjectWords.{ProjectWords}
 use Rattle.testr_words.specs.declared.command.Face.{Face}
 use Rattle.testr_words.specs.declared.command.Face.TheVariants.{Testr, Stestr}
 use Rattle.testr_words.specs.Drawings.{if_few}
-use Rattle.testr_words.specs.Letters.{long_words}
+use Rattle.testr_words.specs.Letters.{long_words, has_value}
 use Rattle.testr_words.specs.Formats.{format_word, format_in}
 use Rattle.testr_words.specs.declared.format.FormatKind.{FormatKind}
 use Rattle.testr_words.specs.declared.format.FormatKind.TheVariants.{Plain}
 use Rattle.testr_words.specs.Lives.{live_word, live_in}
-use Rattle.testr_words.specs.declared.live.LiveKind.{LiveKind}
-use Rattle.testr_words.specs.declared.live.LiveKind.TheVariants.{Nothing}
-use Rattle.testr_words.specs.Shards.{Part, part_of, slash}
+use Rattle.testr_words.specs.declared.live_kind.LiveKind.{LiveKind}
+use Rattle.testr_words.specs.declared.live_kind.LiveKind.TheVariants.{Nothing}
+use Rattle.testr_words.specs.Shards.{NumberedShard, part_of, slash}
 use Rattle.testr_words.specs.declared.shard.TheConstants.{MOST_SHARDS}
-use Rattle.testr_words.specs.declared.drawing.Drawing.{Drawing}
+use Rattle.testr_words.specs.declared.selftest_words.SelfTestWords.{SelfTestWords}
 use Rattle.testr_words.specs.Tasks.{Task, task_of, forces, hides, warns, live_of, streams, expects}
 
 -- the first word of each face
@@ -177,14 +178,14 @@ abbrev pub failing_kind : List ℕ → Option Kind
 failing_kind word = if bytes_eq word (codes "--list") || (bytes_eq word (codes "--full") || bytes_eq word (codes "--subunit")) then Some Flag else None
 
 -- which options a verb has
-abbrev pub kinds_of : Face → Verb → List ℕ → Option Kind
-kinds_of face Load word = quiet_or word (idle_or word (load_kind word))
-kinds_of face Run word = quiet_or word (idle_or word (run_kind face word))
-kinds_of face Last word = quiet_or word (idle_or word (last_kind word))
-kinds_of face Failing word = failing_kind word
-kinds_of face Slowest word = only_flag (codes "--all") word
-kinds_of face ListTests word = list_kind word
-kinds_of face other word = None
+abbrev pub option_kinds : Face → Verb → List ℕ → Option Kind
+option_kinds face Load word = quiet_or word (idle_or word (load_kind word))
+option_kinds face Run word = quiet_or word (idle_or word (run_kind face word))
+option_kinds face Last word = quiet_or word (idle_or word (last_kind word))
+option_kinds face Failing word = failing_kind word
+option_kinds face Slowest word = only_flag (codes "--all") word
+option_kinds face ListTests word = list_kind word
+option_kinds face other word = None
 
 -- How many names there may be; none where there is no end to them. Those of `selftest` are numbers.
 abbrev pub most_names : Verb → Option ℕ
@@ -216,31 +217,21 @@ if_texts names = if list_all is_text names then Some names else None
 
 -- ---- what the options with a value say
 
--- the value that the item gives to this option
-abbrev pub value_of : List ℕ → Item → Option (List ℕ)
-value_of key (flag word) = None
-value_of key (valued word value) = if bytes_eq word key then Some value else None
-value_of key (name word) = None
-
--- the values of this option, in their order
-abbrev pub values_in : List ℕ → List Item → List (List ℕ)
-values_in key items = flat_map (λ item. option_to_list (value_of key item)) items
-
 -- the last of the values, or what stood before them
-abbrev pub last_behind : Option (List ℕ) → List (List ℕ) → Option (List ℕ)
-last_behind before values = fold (λ stood value. Some value) before values
+abbrev pub last_value_behind : Option (List ℕ) → List (List ℕ) → Option (List ℕ)
+last_value_behind before values = fold (λ stood value. Some value) before values
 
 -- the last of the values, where there is one
 abbrev pub last_of : List (List ℕ) → Option (List ℕ)
-last_of values = last_behind None values
+last_of values = last_value_behind None values
 
 -- The value is the decimal of a number up to this.
 abbrev pub is_number : (most : ℕ) → List ℕ → Bool
 is_number most value = bytes_eq value (decimal (digits_value 10 value)) && nat_le (digits_value 10 value) most
 
 -- that number
-abbrev pub number_of : (most : ℕ) → List ℕ → Option ℕ
-number_of most value = if is_number most value then Some (digits_value 10 value) else None
+abbrev pub number_up_to : (most : ℕ) → List ℕ → Option ℕ
+number_up_to most value = if is_number most value then Some (digits_value 10 value) else None
 
 -- The value is a number in decimal, of any length, without a sign and without leading zeros: digits, and the first is 0 only
 -- where it stands alone.
@@ -275,14 +266,14 @@ abbrev pub too_many_in : List Item → Bool
 too_many_in items = are_too_many (last_of (values_in concurrency_word items))
 
 -- the shard that its number and the count of all tell
-abbrev pub shard_between : (number count : List ℕ) → Option Part
+abbrev pub shard_between : (number count : List ℕ) → Option NumberedShard
 shard_between number count =
-    and_then (number_of MOST_SHARDS number) (λ number.
-    and_then (number_of MOST_SHARDS count) (λ count.
+    and_then (number_up_to MOST_SHARDS number) (λ number.
+    and_then (number_up_to MOST_SHARDS count) (λ count.
     part_of number count))
 
 -- the shard that the value tells: a number, a slash, and how many there are
-abbrev pub shard_of : List ℕ → Option Part
+abbrev pub shard_of : List ℕ → Option NumberedShard
 shard_of value = if nat_lt (position_or_len slash value) (length value) then shard_between (before_first slash value) (after_first slash value) else None
 
 -- the value tells one
@@ -290,7 +281,7 @@ abbrev pub is_shard : List ℕ → Bool
 is_shard value = is_some (shard_of value)
 
 -- the shard that is wanted, where each value that tells one does so; of several the last one stands
-abbrev pub shard_in : List Item → Option (Option Part)
+abbrev pub shard_in : List Item → Option (Option NumberedShard)
 shard_in items = if list_all is_shard (values_in shard_word items) then Some (and_then (last_of (values_in shard_word items)) shard_of) else None
 
 -- a name that may be missing, where it is a text
@@ -308,23 +299,15 @@ texts_in key items = if_texts (values_in key items)
 
 -- ---- what is said of the project
 
--- `"`, `$`, a backslash or a backquote, which a shell reads between double quotes
-abbrev pub is_quote_sign : ℕ → Bool
-is_quote_sign byte = byte == 34 || byte == 36 || byte == 92 || byte == 96
-
--- what stands for itself between double quotes
-abbrev pub is_path : List ℕ → Bool
-is_path value = not (list_any is_quote_sign value)
-
 -- the path that this option gives, where each of its values is one; of several the last one stands
-abbrev pub path_in : List ℕ → List Item → Option (Option (List ℕ))
-path_in key items = if list_all is_path (values_in key items) then file_in key items else None
+abbrev pub path_given : List ℕ → List Item → Option (Option (List ℕ))
+path_given key items = if list_all is_path (values_in key items) then file_in key items else None
 
 -- what the options say of the project, and the words behind them
 abbrev pub project_in : List Item → (arguments : List (List ℕ)) → Option ProjectWords
 project_in items arguments =
-    and_then (path_in test_path_word items) (λ test_path.
-    and_then (path_in top_dir_word items) (λ top_dir.
+    and_then (path_given test_path_word items) (λ test_path.
+    and_then (path_given top_dir_word items) (λ top_dir.
     and_then (file_in group_regex_word items) (λ group_regex.
     and_then (if_texts arguments) (λ arguments.
     Some (record { test_path = test_path; top_dir = top_dir; group_regex = group_regex; arguments = arguments })))))
@@ -338,12 +321,6 @@ abbrev pub with_project : ProjectWords → Command → Command
 with_project project command = record command { project = project }
 
 -- ---- the words behind the options of a run
-
--- the kind is that of an option with a value
-abbrev pub has_value : Option Kind → Bool
-has_value None = false
-has_value (Some Flag) = false
-has_value (Some Valued) = true
 
 -- How many words stand in front of the first `--` that is no option's value. The first word is one where it is asked for.
 abbrev pub before_end : Face → (asked : Bool) → List (List ℕ) → ℕ
@@ -364,22 +341,16 @@ arguments_in face verb words = []
 
 -- ---- what the names of `selftest` say
 
--- the name that the item is
-abbrev pub name_of : Item → Option (List ℕ)
-name_of (flag word) = None
-name_of (valued word value) = None
-name_of (name word) = Some word
-
 -- the drawing of a seed, of nine digits at most, a number of lanes and a number of tests
-abbrev pub drawing_of_names : (seed lanes tests : List ℕ) → Option Drawing
+abbrev pub drawing_of_names : (seed lanes tests : List ℕ) → Option SelfTestWords
 drawing_of_names seed lanes tests =
-    and_then (number_of 999999999 seed) (λ seed.
-    and_then (number_of 64 lanes) (λ lanes.
-    and_then (number_of 1000000 tests) (λ tests.
+    and_then (number_up_to 999999999 seed) (λ seed.
+    and_then (number_up_to 64 lanes) (λ lanes.
+    and_then (number_up_to 1000000 tests) (λ tests.
     if_few (record { seed = seed; lanes = lanes; tests = tests }))))
 
 -- the three items are the names of a seed, lanes and tests
-abbrev pub drawing_in : List Item → Option Drawing
+abbrev pub drawing_in : List Item → Option SelfTestWords
 drawing_in (seed ∷ lanes ∷ tests ∷ []) =
     and_then (name_of seed) (λ seed.
     and_then (name_of lanes) (λ lanes.
@@ -388,7 +359,7 @@ drawing_in (seed ∷ lanes ∷ tests ∷ []) =
 drawing_in items = None
 
 -- the command of a drawing, which has no names of its own
-abbrev pub command_of_drawing : Face → Drawing → Command
+abbrev pub command_of_drawing : Face → SelfTestWords → Command
 command_of_drawing face drawing = record {
   face = face;
   verb = SelfTest;
@@ -435,12 +406,12 @@ made_first_by Stestr Run items = true
 made_first_by face verb items = has_flag (codes "--force-init") items
 
 -- a file of times is named for a shard alone
-abbrev pub may_time : (shard : Option Part) → (times : Option (List ℕ)) → Bool
+abbrev pub may_time : (shard : Option NumberedShard) → (times : Option (List ℕ)) → Bool
 may_time shard times = is_some shard || not (is_some times)
 
 -- The command of these items, names, workers, load list, list of what is expected, patterns, files of patterns, shard, file of times, lines and format,
 -- where the names are no more than the verb has, and the file has a shard.
-abbrev pub command_with : Face → Verb → List Item → (names : List (List ℕ)) → (workers : ℕ) → (load_list expect : Option (List ℕ)) → (excluded : List (List ℕ)) → (include_list exclude_list : Option (List ℕ)) → (shard : Option Part) → (times : Option (List ℕ)) → (live : LiveKind) → (format : FormatKind) → Option Command
+abbrev pub command_with : Face → Verb → List Item → (names : List (List ℕ)) → (workers : ℕ) → (load_list expect : Option (List ℕ)) → (excluded : List (List ℕ)) → (include_list exclude_list : Option (List ℕ)) → (shard : Option NumberedShard) → (times : Option (List ℕ)) → (live : LiveKind) → (format : FormatKind) → Option Command
 command_with face verb items names workers load_list expect excluded include_list exclude_list shard times live format = if may_have (most_names verb) (length names) && may_time shard times then Some (record {
   face = face;
   verb = verb;
@@ -499,7 +470,7 @@ command_of_items face other items = command_of_names face other items
 -- the command of this verb that the options and names ask for, with these words behind them
 abbrev pub command_behind : Face → Verb → (options arguments : List (List ℕ)) → Option Command
 command_behind face verb options arguments =
-    and_then (items_of (kinds_of face verb) (long_words (kinds_of face verb) options)) (λ items.
+    and_then (items_of (option_kinds face verb) (long_words (option_kinds face verb) options)) (λ items.
     and_then (project_in items arguments) (λ project.
     option_map (with_project project) (command_of_items face verb items)))
 

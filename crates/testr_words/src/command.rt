@@ -4,7 +4,7 @@ ghost use Rattle.std.specs.Prelude.{◌≡◌};
 ghost use Rattle.testr_words.specs.Tasks.{report_question};
 
 use crate::format::FormatKind;
-use crate::live::LiveKind;
+use crate::live_kind::LiveKind;
 use crate::shard::Shard;
 use crate::words::MOST_FILES;
 use std::alloc::Global;

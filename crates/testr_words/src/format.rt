@@ -1,7 +1,7 @@
 //! In which form words ask for what stands behind a report.
 
 ghost use Rattle.std.specs.Prelude.{◌≡◌, map};
-ghost use Rattle.command_words.specs.Code.{shown};
+ghost use Rattle.command_words.specs.Code.{item_meant};
 ghost use Rattle.testr_words.specs.Formats as formats;
 
 use command_words::Item;
@@ -17,7 +17,7 @@ pub enum FormatKind {
 
 /// The kind that the options ask for. None comes exactly where a value of `--format` names no kind.
 pub(crate) fn format_in(items: &[Item<'_>]) -> Option<FormatKind>
-    ensures { result ≡ formats.format_in (map shown items.now) }
+    ensures { result ≡ formats.format_in (map item_meant items.now) }
 {
     let mut kind = Some(FormatKind::Plain);
     for item in items {
@@ -28,7 +28,7 @@ pub(crate) fn format_in(items: &[Item<'_>]) -> Option<FormatKind>
 
 // The kind behind one item more.
 fn format_behind(kind: Option<FormatKind>, item: &Item<'_>) -> Option<FormatKind>
-    ensures { result ≡ formats.format_behind kind (shown item.now) }
+    ensures { result ≡ formats.format_behind kind (item_meant item.now) }
 {
     let Some(kind) = kind else {
         return None;

@@ -9,7 +9,7 @@ use std::alloc::Global;
 use sub_number::NoMemory;
 
 /// The words with long options in place of those of one letter. Values stay as they are.
-pub(crate) fn long_words<T: OptionTable>(
+pub(crate) fn spelled_out_words<T: OptionTable>(
     alloc: Global,
     table: &T,
     words: &[String],

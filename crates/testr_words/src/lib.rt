@@ -9,10 +9,10 @@
 //! - `command`: what words may ask for
 //! - `words`: the options and names of each verb
 //! - `letters`: options of one letter
-//! - `live`: which lines are wanted of the tests of a run, while it goes on
+//! - `live_kind`: which lines are wanted of the tests of a run, while it goes on
 //! - `values`: options with a value
 //! - `project`: what is said of the project, and the words behind `--`
-//! - `drawing`: the numbers of `selftest`
+//! - `selftest_words`: the numbers of `selftest`
 //! - `format`: for whom a report is printed
 //! - `shard`: which shard of the tests is wanted
 //!
@@ -20,19 +20,19 @@
 #![tactic(auto)]
 
 mod command;
-mod drawing;
 mod format;
 mod letters;
-mod live;
+mod live_kind;
 mod project;
+mod selftest_words;
 mod shard;
 mod values;
 mod words;
 
 pub use command::{Command, Face, ProjectWords, Question, Verb};
-pub use drawing::{Drawing, drawing_of};
 pub use format::FormatKind;
-pub use live::LiveKind;
+pub use live_kind::LiveKind;
+pub use selftest_words::{SelfTestWords, drawing_of};
 pub use shard::{MOST_SHARDS, Shard};
 pub use values::MOST_WORKERS;
-pub use words::{MOST_FILES, called_as, reads, reads_as};
+pub use words::{MOST_FILES, face_named, read_command, read_command_as};

@@ -4,9 +4,11 @@ ghost use Rattle.std.specs.Prelude.{◌≡◌, ◌≤◌, ◌+◌, ◌&&◌, not
 ghost use Rattle.std.specs.List.{list_all, list_any};
 ghost use Rattle.std.specs.Str.{bytes_eq};
 ghost use Rattle.std.specs.Option.{option_to_list};
-ghost use Rattle.command_words.specs.Code.{shown};
-ghost use Rattle.command_words.specs.Items.{texts};
+ghost use Rattle.command_words.specs.Code.{item_meant};
+ghost use Rattle.command_words.specs.Items.{texts, value_of};
+ghost use Rattle.sub_number.specs.Quotes.{is_path, is_quote_sign};
 ghost use Rattle.testr_words.specs.Words as words;
+ghost use Rattle.testr_words.specs.Letters.{has_value};
 
 use crate::command::{Face, ProjectWords, Verb};
 use crate::values::{file_in, push_text, value_of};
@@ -22,7 +24,7 @@ pub(crate) fn project_in(
     items: &[Item<'_>],
     arguments: &[String],
 ) -> Result<Option<ProjectWords>, NoMemory>
-    ensures { IfOk result (λ project. project ≡ words.project_in (map shown items.now) (texts arguments.now)) }
+    ensures { IfOk result (λ project. project ≡ words.project_in (map item_meant items.now) (texts arguments.now)) }
 {
     let Some(test_path) = path_in(alloc, items, "--test-path")? else {
         return Ok(None);
@@ -47,7 +49,7 @@ pub(crate) fn project_in(
 // The path that the last of these options gives; none in the answer where none does. None comes exactly where a value is no
 // path, or the last is no text.
 fn path_in(alloc: Global, items: &[Item<'_>], key: &str) -> Result<Option<Option<Text>>, NoMemory>
-    ensures { IfOk result (λ path. path ≡ words.path_in key.now (map shown items.now)) }
+    ensures { IfOk result (λ path. path ≡ words.path_given key.now (map item_meant items.now)) }
 {
     if are_paths(items, key) {
         file_in(alloc, items, key)
@@ -58,14 +60,14 @@ fn path_in(alloc: Global, items: &[Item<'_>], key: &str) -> Result<Option<Option
 
 // Whether each value of the option is a path.
 fn are_paths(items: &[Item<'_>], key: &str) -> bool
-    ensures { result ≡ list_all (λ item. list_all words.is_path (option_to_list (words.value_of key.now (shown item)))) items.now }
+    ensures { result ≡ list_all (λ item. list_all is_path (option_to_list (value_of key.now (item_meant item)))) items.now }
 {
     items.iter().all(|item| gives_path(*item, key))
 }
 
 // Whether the item, where it gives a value to the option, gives a path.
 fn gives_path(item: Item<'_>, key: &str) -> bool
-    ensures { result ≡ list_all words.is_path (option_to_list (words.value_of key.now (shown item.entry))) }
+    ensures { result ≡ list_all is_path (option_to_list (value_of key.now (item_meant item.entry))) }
 {
     match value_of(item, key) {
         Some(value) => !has_quote_sign(value.as_bytes()),
@@ -74,14 +76,14 @@ fn gives_path(item: Item<'_>, key: &str) -> bool
 }
 
 fn has_quote_sign(value: &[u8]) -> bool
-    ensures { result ≡ list_any words.is_quote_sign value.now }
+    ensures { result ≡ list_any is_quote_sign value.now }
 {
     value.iter().any(|byte| is_quote_sign(*byte))
 }
 
 // Whether a shell reads the byte between double quotes.
 fn is_quote_sign(byte: u8) -> bool
-    ensures { result ≡ words.is_quote_sign byte }
+    ensures { result ≡ is_quote_sign byte }
 {
     matches!(byte, b'"' | b'$' | b'\\' | b'`')
 }
@@ -100,7 +102,7 @@ fn texts_of(alloc: Global, given: &[String]) -> Result<Option<IdList>, NoMemory>
 }
 
 /// The words that are options and names, and those behind the word that ends them; only a run has one.
-pub(crate) fn parted(face: Face, verb: Verb, given: &[String]) -> (&[String], &[String])
+pub(crate) fn split_at_end_word(face: Face, verb: Verb, given: &[String]) -> (&[String], &[String])
     ensures options { texts result.0.now ≡ words.options_in face verb (texts given.now) }
     ensures arguments { texts result.1.now ≡ words.arguments_in face verb (texts given.now) }
 {
@@ -150,7 +152,7 @@ fn ends(asked: bool, word: &str) -> bool
 
 // Whether the word is an option of a run that asks for a value. One that is asked for is a value itself.
 fn asks(face: Face, asked: bool, word: &str) -> bool
-    ensures { result ≡ (not asked && words.has_value (words.run_kind face word.now)) }
+    ensures { result ≡ (not asked && has_value (words.run_kind face word.now)) }
 {
     !asked && matches!(run_option(face, word), Some(Kind::Valued))
 }

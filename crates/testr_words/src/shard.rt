@@ -3,11 +3,12 @@
 ghost use Rattle.std.specs.Prelude.{◌≡◌, ◌<◌, ◌≤◌, ◌-◌, map, option_map};
 ghost use Rattle.std.specs.List.{list_all};
 ghost use Rattle.std.specs.Option.{option_to_list};
-ghost use Rattle.command_words.specs.Code.{shown};
+ghost use Rattle.command_words.specs.Code.{item_meant};
+ghost use Rattle.command_words.specs.Items.{value_of};
 ghost use Rattle.testr_words.specs.Shards.{part_of};
 ghost use Rattle.testr_words.specs.Words as words;
 
-use crate::values::{last_value, number, value_of};
+use crate::values::{decimal_up_to, last_value, value_of};
 use command_words::Item;
 use std::marker::Model;
 
@@ -23,9 +24,9 @@ pub struct Shard {
 
 impl Model for Shard {
     ghost use Rattle.std.specs.Prelude.{◌≤◌};
-    ghost use Rattle.testr_words.specs.Shards.{Part};
+    ghost use Rattle.testr_words.specs.Shards.{NumberedShard};
 
-    ghost Value = { Part };
+    ghost Value = { NumberedShard };
 
     ghost view = { λ s. record { number = s.number; count = s.count } };
 
@@ -66,7 +67,7 @@ impl Shard {
 /// The shard that the last option tells that tells one; none in the answer where none does. None comes exactly where one of
 /// these options has another value than a number, a slash, and how many shards there are.
 pub(crate) fn shard_in(items: &[Item<'_>]) -> Option<Option<Shard>>
-    ensures { result ≡ words.shard_in (map shown items.now) }
+    ensures { result ≡ words.shard_in (map item_meant items.now) }
 {
     if !are_shards(items) {
         return None;
@@ -79,14 +80,14 @@ pub(crate) fn shard_in(items: &[Item<'_>]) -> Option<Option<Shard>>
 
 // Whether each of the options that tell a shard has one.
 fn are_shards(items: &[Item<'_>]) -> bool
-    ensures { result ≡ list_all (λ item. list_all words.is_shard (option_to_list (words.value_of words.shard_word (shown item)))) items.now }
+    ensures { result ≡ list_all (λ item. list_all words.is_shard (option_to_list (value_of words.shard_word (item_meant item)))) items.now }
 {
     items.iter().all(|item| is_fit(*item))
 }
 
 // Whether the item, where it tells a shard, has one.
 fn is_fit(item: Item<'_>) -> bool
-    ensures { result ≡ list_all words.is_shard (option_to_list (words.value_of words.shard_word (shown item.entry))) }
+    ensures { result ≡ list_all words.is_shard (option_to_list (value_of words.shard_word (item_meant item.entry))) }
 {
     match value_of(item, "--shard") {
         Some(value) => told_shard(value).is_some(),
@@ -99,5 +100,8 @@ fn told_shard(value: &str) -> Option<Shard>
     ensures { result ≡ words.shard_of value.now }
 {
     let (which, count) = value.split_once('/')?;
-    Shard::new(number(which, MOST_SHARDS)?, number(count, MOST_SHARDS)?)
+    Shard::new(
+        decimal_up_to(which, MOST_SHARDS)?,
+        decimal_up_to(count, MOST_SHARDS)?,
+    )
 }

@@ -5,8 +5,8 @@ ghost use Rattle.std.specs.Char.{is_ascii_digit};
 ghost use Rattle.std.specs.List.{list_all};
 ghost use Rattle.std.specs.Option.{option_to_list};
 ghost use Rattle.std.specs.Str.Parse.{digits_value};
-ghost use Rattle.command_words.specs.Code.{shown};
-ghost use Rattle.command_words.specs.Items.{is_text};
+ghost use Rattle.command_words.specs.Code.{item_meant};
+ghost use Rattle.command_words.specs.Items.{is_text, value_of, values_in};
 ghost use Rattle.testr_words.specs.Words as words;
 
 use command_words::{Item, text_of};
@@ -20,7 +20,7 @@ pub const MOST_WORKERS: u32 = 64;
 /// How many workers are asked for: what the last option tells that tells it, `MOST_WORKERS` at most, or 0 where none does.
 /// None comes exactly where one of these options has another value than a number in decimal without sign or leading zero.
 pub(crate) fn workers_in(items: &[Item<'_>]) -> Option<u32>
-    ensures { result ≡ words.workers_in (map shown items.now) }
+    ensures { result ≡ words.workers_in (map item_meant items.now) }
 {
     if !are_worker_counts(items) {
         return None;
@@ -33,7 +33,7 @@ pub(crate) fn workers_in(items: &[Item<'_>]) -> Option<u32>
 
 /// Whether the last option that tells how many workers are asked for tells of more than `MOST_WORKERS`.
 pub(crate) fn are_too_many_in(items: &[Item<'_>]) -> bool
-    ensures { result ≡ words.too_many_in (map shown items.now) }
+    ensures { result ≡ words.too_many_in (map item_meant items.now) }
 {
     match last_value(items, "--concurrency") {
         Some(value) => is_too_many(value),
@@ -48,7 +48,7 @@ pub(crate) fn file_in(
     items: &[Item<'_>],
     key: &str,
 ) -> Result<Option<Option<Text>>, NoMemory>
-    ensures { IfOk result (λ file. file ≡ words.file_in key.now (map shown items.now)) }
+    ensures { IfOk result (λ file. file ≡ words.file_in key.now (map item_meant items.now)) }
 {
     let Some(name) = last_value(items, key) else {
         return Ok(Some(None));
@@ -65,7 +65,7 @@ pub(crate) fn texts_in(
     items: &[Item<'_>],
     key: &str,
 ) -> Result<Option<IdList>, NoMemory>
-    ensures { IfOk result (λ values. values ≡ words.texts_in key.now (map shown items.now)) }
+    ensures { IfOk result (λ values. values ≡ words.texts_in key.now (map item_meant items.now)) }
 {
     let mut values = IdList::new(alloc);
     for item in items {
@@ -83,8 +83,8 @@ fn take_value(
     key: &str,
     values: &mut IdList,
 ) -> Result<bool, NoMemory>
-    ensures added { IfOk result (λ taken. taken ≡ true → values.new ≡ values.old ++ option_to_list (words.value_of key.now (shown item.entry))) }
-    ensures texts { IfOk result (λ taken. taken ≡ list_all is_text (option_to_list (words.value_of key.now (shown item.entry)))) }
+    ensures added { IfOk result (λ taken. taken ≡ true → values.new ≡ values.old ++ option_to_list (value_of key.now (item_meant item.entry))) }
+    ensures texts { IfOk result (λ taken. taken ≡ list_all is_text (option_to_list (value_of key.now (item_meant item.entry)))) }
 {
     match value_of(item, key) {
         Some(value) => push_text(alloc, value, values),
@@ -108,7 +108,7 @@ pub(crate) fn push_text(alloc: Global, word: &str, texts: &mut IdList) -> Result
 
 /// The value of the last of these options. None comes exactly where there is none.
 pub(crate) fn last_value<'a>(items: &[Item<'a>], key: &str) -> Option<&'a str>
-    ensures { option_map (λ value. value.now) result ≡ words.last_of (words.values_in key.now (map shown items.now)) }
+    ensures { option_map (λ value. value.now) result ≡ words.last_of (values_in key.now (map item_meant items.now)) }
 {
     let mut last = None;
     for item in items {
@@ -121,7 +121,7 @@ pub(crate) fn last_value<'a>(items: &[Item<'a>], key: &str) -> Option<&'a str>
 
 // The value that the item gives to this option.
 pub(crate) fn value_of<'a>(item: Item<'a>, key: &str) -> Option<&'a str>
-    ensures { option_map (λ value. value.now) result ≡ words.value_of key.now (shown item.entry) }
+    ensures { option_map (λ value. value.now) result ≡ value_of key.now (item_meant item.entry) }
 {
     match item {
         Item::Valued(name, value) if name == key => Some(value),
@@ -131,14 +131,14 @@ pub(crate) fn value_of<'a>(item: Item<'a>, key: &str) -> Option<&'a str>
 
 // Whether each of the options that tell the number of workers has one.
 fn are_worker_counts(items: &[Item<'_>]) -> bool
-    ensures { result ≡ list_all (λ item. list_all words.is_decimal (option_to_list (words.value_of (codes "--concurrency") (shown item)))) items.now }
+    ensures { result ≡ list_all (λ item. list_all words.is_decimal (option_to_list (value_of (codes "--concurrency") (item_meant item)))) items.now }
 {
     items.iter().all(|item| is_fit(*item))
 }
 
 // Whether the item, where it tells the number of workers, has one.
 fn is_fit(item: Item<'_>) -> bool
-    ensures { result ≡ list_all words.is_decimal (option_to_list (words.value_of (codes "--concurrency") (shown item.entry))) }
+    ensures { result ≡ list_all words.is_decimal (option_to_list (value_of (codes "--concurrency") (item_meant item.entry))) }
 {
     match value_of(item, "--concurrency") {
         Some(value) => is_decimal(value),
@@ -193,8 +193,8 @@ fn are_digits(bytes: &[u8]) -> bool
 
 /// The number, this one at most, that the value tells in decimal, without sign or leading zero. None comes exactly where it
 /// tells none.
-pub(crate) fn number(value: &str, most: u32) -> Option<u32>
-    ensures { result ≡ words.number_of most value.now }
+pub(crate) fn decimal_up_to(value: &str, most: u32) -> Option<u32>
+    ensures { result ≡ words.number_up_to most value.now }
 {
     let Ok(number) = value.parse::<u32>() else {
         return None;

@@ -1,18 +1,18 @@
 //! Reads the words of the command line.
 
 ghost use Rattle.std.specs.Prelude.{◌≡◌, ◌++◌, true, map, option_map, IfOk};
-ghost use Rattle.command_words.specs.Code.{shown};
+ghost use Rattle.command_words.specs.Code.{item_meant};
 ghost use Rattle.command_words.specs.Items.{texts, is_text};
 ghost use Rattle.std.specs.List.{list_all};
-ghost use Rattle.testr_words.specs.Words.{face_of, face_in, verb_of, verb_by, kinds_of, only_flag, load_kind, last_kind, failing_kind, run_kind, choosing_kind, idle_or, quiet_or, is_run_flag as is_flag_of_run, is_face_flag as is_flag_of_face, parallel_by, made_first_by, most_names, may_have as may_have_these, may_time as may_time_these, names_in, names_of, if_texts, command_of_names as command_of_these_names, command_of_drawing, drawing_in as drawing_of_items, command_of_items, command_of_verb, command_of, list_kind, is_run_option as is_option_of_run, command_behind as command_of_parts, with_project as with_this_project};
+ghost use Rattle.testr_words.specs.Words.{face_of, face_in, verb_of, verb_by, option_kinds, only_flag, load_kind, last_kind, failing_kind, run_kind, choosing_kind, idle_or, quiet_or, is_run_flag as is_flag_of_run, is_face_flag as is_flag_of_face, parallel_by, made_first_by, most_names, may_have as may_have_these, may_time as may_time_these, names_in, names_of, if_texts, command_of_names as command_of_these_names, command_of_drawing, drawing_in as drawing_of_items, command_of_items, command_of_verb, command_of, list_kind, is_run_option as is_option_of_run, command_behind as command_of_parts, with_project as with_this_project};
 ghost use Rattle.testr_words.specs.declared.command.Face.TheVariants.{Testr};
 
 use crate::command::{Command, Face, ProjectWords, Verb};
-use crate::drawing::drawing_in;
 use crate::format::{FormatKind, format_in};
-use crate::letters::long_words;
-use crate::live::{LiveKind, live_in};
-use crate::project::{parted, project_in};
+use crate::letters::spelled_out_words;
+use crate::live_kind::{LiveKind, live_in};
+use crate::project::{project_in, split_at_end_word};
+use crate::selftest_words::drawing_in;
 use crate::shard::{Shard, shard_in};
 use crate::values::{are_too_many_in, file_in, push_text, texts_in, workers_in};
 use command_words::{Item, Kind, OptionTable, has_flag, read_items};
@@ -23,7 +23,7 @@ use sub_number::{IdList, NoMemory, Text};
 pub const MOST_FILES: usize = 64;
 
 /// The face that the first word names; none where it is none of them.
-pub fn called_as(words: &[String]) -> Option<Face>
+pub fn face_named(words: &[String]) -> Option<Face>
     ensures { result ≡ face_in (texts words.now) }
 {
     match words {
@@ -43,14 +43,18 @@ fn face(word: &str) -> Option<Face>
 }
 
 /// The command that the words behind `testr` are. None comes exactly where they are none.
-pub fn reads(alloc: Global, words: &[String]) -> Result<Option<Command>, NoMemory>
+pub fn read_command(alloc: Global, words: &[String]) -> Result<Option<Command>, NoMemory>
     ensures { IfOk result (λ command. command ≡ command_of Testr (texts words.now)) }
 {
-    reads_as(alloc, Face::Testr, words)
+    read_command_as(alloc, Face::Testr, words)
 }
 
 /// The command that the words behind the name of this face are. None comes exactly where they are none.
-pub fn reads_as(alloc: Global, face: Face, words: &[String]) -> Result<Option<Command>, NoMemory>
+pub fn read_command_as(
+    alloc: Global,
+    face: Face,
+    words: &[String],
+) -> Result<Option<Command>, NoMemory>
     ensures { IfOk result (λ command. command ≡ command_of face (texts words.now)) }
 {
     let Some((word, rest)) = words.split_first() else {
@@ -103,7 +107,7 @@ struct Options {
 }
 
 impl OptionTable for Options {
-    ghost kinds = { λ options word. kinds_of options.face options.verb word };
+    ghost kinds = { λ options word. option_kinds options.face options.verb word };
 
     fn kind(&self, name: &str) -> Option<Kind> {
         match self.verb {
@@ -258,7 +262,7 @@ fn reads_behind(
 ) -> Result<Option<Command>, NoMemory>
     ensures { IfOk result (λ command. command ≡ command_of_verb face (texts words.now) verb) }
 {
-    let (options, arguments) = parted(face, verb, words);
+    let (options, arguments) = split_at_end_word(face, verb, words);
     command_behind(alloc, face, verb, options, arguments)
 }
 
@@ -273,7 +277,7 @@ fn command_behind(
     ensures { IfOk result (λ command. command ≡ command_of_parts face verb (texts options.now) (texts arguments.now)) }
 {
     let table = Options { face, verb };
-    let words = long_words(alloc, &table, options)?;
+    let words = spelled_out_words(alloc, &table, options)?;
     let Some(items) = read_items(alloc, &table, &words)? else {
         return Ok(None);
     };
@@ -291,7 +295,7 @@ fn command_of_project(
     items: &[Item<'_>],
     project: ProjectWords,
 ) -> Result<Option<Command>, NoMemory>
-    ensures { IfOk result (λ command. command ≡ option_map (with_this_project project) (command_of_items face verb (map shown items.now))) }
+    ensures { IfOk result (λ command. command ≡ option_map (with_this_project project) (command_of_items face verb (map item_meant items.now))) }
 {
     match command(alloc, face, verb, items)? {
         Some(command) => Ok(Some(command.with_project(project))),
@@ -306,7 +310,7 @@ fn command(
     verb: Verb,
     items: &[Item<'_>],
 ) -> Result<Option<Command>, NoMemory>
-    ensures { IfOk result (λ command. command ≡ command_of_items face verb (map shown items.now)) }
+    ensures { IfOk result (λ command. command ≡ command_of_items face verb (map item_meant items.now)) }
 {
     match verb {
         Verb::SelfTest => Ok(drawing_command(alloc, face, items)),
@@ -316,7 +320,7 @@ fn command(
 
 // The command whose names are the numbers of a drawing. None comes exactly where they are none.
 fn drawing_command(alloc: Global, face: Face, items: &[Item<'_>]) -> Option<Command>
-    ensures { result ≡ option_map (command_of_drawing face) (drawing_of_items (map shown items.now)) }
+    ensures { result ≡ option_map (command_of_drawing face) (drawing_of_items (map item_meant items.now)) }
 {
     let drawing = drawing_in(items)?;
     Some(Command {
@@ -388,7 +392,7 @@ fn may_time(shard: Option<Shard>, times: &Option<Text>) -> bool
 
 // Whether several workers are asked for: by default, where the face is `stestr`.
 fn is_parallel(face: Face, verb: Verb, items: &[Item<'_>]) -> bool
-    ensures { result ≡ parallel_by face verb (map shown items.now) }
+    ensures { result ≡ parallel_by face verb (map item_meant items.now) }
 {
     match (face, verb) {
         (Face::Stestr, Verb::Run) => !has_flag(items, "--serial"),
@@ -398,7 +402,7 @@ fn is_parallel(face: Face, verb: Verb, items: &[Item<'_>]) -> bool
 
 // Whether a repository is made first, where there is none: of what keeps a run always, where the face is `stestr`.
 fn is_made_first(face: Face, verb: Verb, items: &[Item<'_>]) -> bool
-    ensures { result ≡ made_first_by face verb (map shown items.now) }
+    ensures { result ≡ made_first_by face verb (map item_meant items.now) }
 {
     match (face, verb) {
         (Face::Stestr, Verb::Load | Verb::Run) => true,
@@ -413,7 +417,7 @@ fn command_of_names(
     verb: Verb,
     items: &[Item<'_>],
 ) -> Result<Option<Command>, NoMemory>
-    ensures { IfOk result (λ command. command ≡ command_of_these_names face verb (map shown items.now)) }
+    ensures { IfOk result (λ command. command ≡ command_of_these_names face verb (map item_meant items.now)) }
 {
     let Some(names) = names(alloc, items)? else {
         return Ok(None);
@@ -486,7 +490,7 @@ fn command_of_names(
 
 // The names among the items. None comes where one of them is no text.
 fn names(alloc: Global, items: &[Item<'_>]) -> Result<Option<IdList>, NoMemory>
-    ensures { IfOk result (λ names. names ≡ if_texts (names_in (map shown items.now))) }
+    ensures { IfOk result (λ names. names ≡ if_texts (names_in (map item_meant items.now))) }
 {
     let mut names = IdList::new(alloc);
     for item in items {
@@ -499,8 +503,8 @@ fn names(alloc: Global, items: &[Item<'_>]) -> Result<Option<IdList>, NoMemory>
 
 // Adds the name that the item is, or nothing. False comes where it is no text.
 fn take_name(alloc: Global, item: Item<'_>, names: &mut IdList) -> Result<bool, NoMemory>
-    ensures added { IfOk result (λ taken. taken ≡ true → names.new ≡ names.old ++ names_of (shown item.entry)) }
-    ensures texts { IfOk result (λ taken. taken ≡ list_all is_text (names_of (shown item.entry))) }
+    ensures added { IfOk result (λ taken. taken ≡ true → names.new ≡ names.old ++ names_of (item_meant item.entry)) }
+    ensures texts { IfOk result (λ taken. taken ≡ list_all is_text (names_of (item_meant item.entry))) }
 {
     let Item::Name(word) = item else {
         return Ok(true);

@@ -1,6 +1,6 @@
 //! Calls of the program over the forms in memory.
 
-use crate::told::Told;
+use crate::call_outcome::CallOutcome;
 use edge_io::{ListSink, ListSource, MapSite, PlanSpawner, Shelf, Spawner};
 use std::alloc::Global;
 use std::sync::Wait;
@@ -42,10 +42,10 @@ pub fn sink(alloc: Global, fails: &[u64]) -> Result<ListSink, Fail> {
 }
 
 // What a call told that answered this status and wrote to these sinks.
-fn told_of(alloc: Global, status: u8, out: &ListSink, err: &ListSink) -> Result<Told, Fail> {
+fn told_of(alloc: Global, status: u8, out: &ListSink, err: &ListSink) -> Result<CallOutcome, Fail> {
     let out = out.taken().to_vec(alloc)?;
     let err = err.taken().to_vec(alloc)?;
-    Ok(Told { status, out, err })
+    Ok(CallOutcome { status, out, err })
 }
 
 // The status that the program answers over no files and no programs.
@@ -81,7 +81,7 @@ pub fn call_over<R: Threads + Wait + Sync + AllocGlobal, H: Shelf>(
     input: &mut ListSource,
     out_fails: &[u64],
     err_fails: &[u64],
-) -> Result<Told, Fail> {
+) -> Result<CallOutcome, Fail> {
     let alloc = rt.alloc();
     let words = owned(alloc, words)?;
     let mut out = sink(alloc, out_fails)?;
@@ -96,7 +96,7 @@ pub fn call<R: Threads + Wait + Sync + AllocGlobal, H: Shelf>(
     words: &[&str],
     shelf: &mut H,
     input: &mut ListSource,
-) -> Result<Told, Fail> {
+) -> Result<CallOutcome, Fail> {
     call_over(rt, words, shelf, input, &[], &[])
 }
 
@@ -123,7 +123,7 @@ pub fn call_with<R: Threads + Wait + Sync + AllocGlobal, H: Shelf, S: Spawner>(
     spawner: &mut S,
     site: &mut MapSite,
     writes: &[u64],
-) -> Result<Told, Fail> {
+) -> Result<CallOutcome, Fail> {
     call_beside(rt, words, shelf, spawner, site, writes, &[])
 }
 
@@ -136,7 +136,7 @@ pub fn call_beside<R: Threads + Wait + Sync + AllocGlobal, H: Shelf, S: Spawner>
     site: &mut MapSite,
     writes: &[u64],
     errors: &[u64],
-) -> Result<Told, Fail> {
+) -> Result<CallOutcome, Fail> {
     let alloc = rt.alloc();
     let words = owned(alloc, words)?;
     let mut out = sink(alloc, writes)?;

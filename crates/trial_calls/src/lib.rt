@@ -5,22 +5,23 @@
 //!
 //! - `samples`: streams and lines that several tests share
 //! - `folders`, `projects`: folders of runs, and projects with their programs
-//! - `told`, `calls`: a call of the program, and what it answered and wrote
-//! - `loading`: calls that read an input, and whether they tell what they should
+//! - `call_outcome`, `calls`: a call of the program, and what it answered and wrote
+//! - `load_calls`: calls that read an input, and whether they tell what they should
 //! - `scenes`: all that a call of `run` or `list-tests` finds, and what it leaves
 #![tactic(auto)]
 
+mod call_outcome;
 mod calls;
 mod folders;
-mod loading;
+mod load_calls;
 mod projects;
 mod samples;
 mod scenes;
-mod told;
 
+pub use call_outcome::CallOutcome;
 pub use calls::{call, call_beside, call_over, call_with, owned, sink, source};
 pub use folders::{has_at, has_file, has_two, put, repository};
-pub use loading::{load, loads, tells, tells_and_leaves, tells_of};
+pub use load_calls::{load, loads, tells, tells_and_leaves, tells_of};
 pub use projects::{
     Project, call_failing, call_in, has_started, project_of, project_with, put_file, shows,
 };
@@ -29,4 +30,3 @@ pub use samples::{
     largest_packet, long_log,
 };
 pub use scenes::{NamedFiles, Played, Scene, play};
-pub use told::Told;

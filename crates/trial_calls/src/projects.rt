@@ -1,7 +1,7 @@
 //! Projects in memory: their files, and what the programs give that they are started with.
 
+use crate::call_outcome::CallOutcome;
 use crate::calls::{call_beside, call_with};
-use crate::told::Told;
 use edge_io::{Finish, Job, MapSite, MemShelf, Plan, PlanSpawner, Shelf, Spawner};
 use std::alloc::Global;
 use std::sync::Wait;
@@ -117,7 +117,7 @@ pub fn call_in<R: Threads + Wait + Sync + AllocGlobal, H: Shelf>(
     shelf: &mut H,
     project: &mut Project,
     writes: &[u64],
-) -> Result<Told, Fail> {
+) -> Result<CallOutcome, Fail> {
     let Project { site, spawner } = project;
     call_with(rt, words, shelf, spawner, site, writes)
 }
@@ -130,7 +130,7 @@ pub fn call_failing<R: Threads + Wait + Sync + AllocGlobal, H: Shelf>(
     project: &mut Project,
     writes: &[u64],
     errors: &[u64],
-) -> Result<Told, Fail> {
+) -> Result<CallOutcome, Fail> {
     let Project { site, spawner } = project;
     call_beside(rt, words, shelf, spawner, site, writes, errors)
 }

@@ -2,10 +2,10 @@
 ghost use Rattle.std.specs.Prelude.{◌≡◌, ◌↔◌, IsTrue, [], length};
 ghost use Rattle.edge_io.specs.Planned.{spawning_of};
 
+use crate::call_outcome::CallOutcome;
 use crate::calls::call_with;
 use crate::folders::put;
 use crate::projects::{Project, project_with};
-use crate::told::Told;
 use edge_io::{Finish, MemShelf};
 use std::alloc::Global;
 use std::sync::Wait;
@@ -40,7 +40,7 @@ pub struct Scene<'a> {
 #[derive(Drop)]
 pub struct Played {
     /// What it told.
-    pub told: Told,
+    pub told: CallOutcome,
     /// The project, with the jobs that were started.
     pub project: Project,
     /// The folder of runs.

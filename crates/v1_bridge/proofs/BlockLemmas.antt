@@ -15,16 +15,16 @@ use Rattle.outcome_fold.specs.declared.row.Row.{Row}
 use Rattle.outcome_fold.specs.declared.test_key.TestKey.{TestKey}
 use Rattle.outcome_fold.specs.Order.{test_cmp, route_cmp, table, in_byte_order}
 use Rattle.outcome_fold.specs.Parts.{test_of, speaks_of, events_of_test, ended_by, last_part, last_tags, instant, start_of, elapsed}
-use Rattle.outcome_fold.specs.Rows.{row_of, part_with, row_completing, completed_row, completed_behind, is_open, open_rows, is_under, by_route, rows_of, is_part}
+use Rattle.outcome_fold.specs.Rows.{row_of, part_with, row_completing, completed_row, completed_behind, is_open, open_rows, is_under, by_route, rows_of, has_events}
 use Rattle.outcome_fold.proofs.OrderLemmas.{tests_total, routes_total}
 use Rattle.outcome_fold.proofs.TableLemmas.{none_of_length}
-use Rattle.outcome_fold.proofs.FoldLemmas.{filter_push, last_part_ends, last_part_goes, part_at}
+use Rattle.outcome_fold.proofs.FoldLemmas.{filter_push, last_part_ends, last_part_goes, part_of_test}
 use Rattle.outcome_fold.proofs.StepLemmas.{last_tags_at}
-use Rattle.v1_bridge.specs.Laws.{Saying, said_of}
+use Rattle.v1_bridge.specs.Laws.{SaidOfRow, said_of}
 
 -- behind these events no test is open
 abbrev pub AreClosed : List Event → Type 0
-AreClosed seen = (t : TestKey) → part_at seen t ≡ []
+AreClosed seen = (t : TestKey) → part_of_test seen t ≡ []
 
 -- the event speaks of no test, or it goes on with this one, without tags
 abbrev pub IsQuiet : TestKey → Event → Type 0
@@ -39,11 +39,11 @@ quiet_then t [] ys first later = later
 quiet_then t (x ∷ xs) ys first later = (first.0, quiet_then t xs ys first.1 later)
 
 -- behind these events no other test is open, and this one has no tags
-record GoesOn (t : TestKey) (seen : List Event) : Type 0 where
-  others : (q : TestKey) → eq_by_cmp test_cmp q t ≡ false → part_at seen q ≡ []
-  tags : last_tags (part_at seen t) ≡ []
+record TestGoesOn (t : TestKey) (seen : List Event) : Type 0 where
+  others : (q : TestKey) → eq_by_cmp test_cmp q t ≡ false → part_of_test seen q ≡ []
+  tags : last_tags (part_of_test seen t) ≡ []
 
-begun : (t : TestKey) (seen : List Event) → AreClosed seen → GoesOn t seen
+begun : (t : TestKey) (seen : List Event) → AreClosed seen → TestGoesOn t seen
 begun t seen closed = record { others = λ q not. closed q; tags = ap last_tags (closed t) }
 
 spoken : (q : TestKey) (seen : List Event) (e : Event) (b : Bool) → speaks_of q (test_of e) ≡ b → events_of_test q (seen ++ e ∷ []) ≡ events_of_test q seen ++ cond b (e ∷ []) []
@@ -52,7 +52,7 @@ spoken q seen e b is = filter_push (λ e. speaks_of q (test_of e)) seen e ∙ ap
 not_spoken : (q : TestKey) (seen : List Event) (e : Event) → speaks_of q (test_of e) ≡ false → events_of_test q (seen ++ e ∷ []) ≡ events_of_test q seen
 not_spoken q seen e is = spoken q seen e false is ∙ append-nil (events_of_test q seen)
 
-goes_on : (t : TestKey) (seen : List Event) (e : Event) → IsQuiet t e → GoesOn t seen → GoesOn t (seen ++ e ∷ [])
+goes_on : (t : TestKey) (seen : List Event) (e : Event) → IsQuiet t e → TestGoesOn t seen → TestGoesOn t (seen ++ e ∷ [])
 goes_on t seen e (inl none) h = record {
   others = λ q not. ap last_part (not_spoken q seen e (ap (speaks_of q) none)) ∙ h.others q not;
   tags = ap (λ es. last_tags (last_part es)) (not_spoken t seen e (ap (speaks_of t) none)) ∙ h.tags;
@@ -62,7 +62,7 @@ goes_on t seen e (inr (test, goes, no_tags)) h = record {
   tags =
       ap (λ es. last_tags (last_part es)) (spoken t seen e true (ap (speaks_of t) test ∙ (eq_by_cmp_equiv tests_total).refl t))
       ∙ ap last_tags (last_part_goes (events_of_test t seen) e (ap is_some goes))
-      ∙ last_tags_at None (part_at seen t) e no_tags ∙ h.tags;
+      ∙ last_tags_at None (part_of_test seen t) e no_tags ∙ h.tags;
 }
 
 no_row : (t : TestKey) (seen : List Event) (e : Event) → IsQuiet t e → completed_row seen e ≡ None
@@ -70,17 +70,17 @@ no_row t seen e (inl none) = ap (λ t. row_completing t (ended_by e.status) seen
 no_row t seen e (inr (test, goes, no_tags)) = λ i. row_completing (test i) (goes i) seen e
 
 -- quiet events complete no row
-quiet_rows : (t : TestKey) (seen es rest : List Event) → AreQuiet t es → GoesOn t seen → (completed_behind seen (es ++ rest) ≡ completed_behind (seen ++ es) rest) × GoesOn t (seen ++ es)
-quiet_rows t seen [] rest quiet h = (ap (λ s. completed_behind s rest) (sym (append-nil seen)), subst (GoesOn t) (sym (append-nil seen)) h)
+quiet_rows : (t : TestKey) (seen es rest : List Event) → AreQuiet t es → TestGoesOn t seen → (completed_behind seen (es ++ rest) ≡ completed_behind (seen ++ es) rest) × TestGoesOn t (seen ++ es)
+quiet_rows t seen [] rest quiet h = (ap (λ s. completed_behind s rest) (sym (append-nil seen)), subst (TestGoesOn t) (sym (append-nil seen)) h)
 quiet_rows t seen (e ∷ es) rest quiet h =
     let later = quiet_rows t (seen ++ e ∷ []) es rest quiet.1 (goes_on t seen e quiet.0 h) in
     let joined : (seen ++ e ∷ []) ++ es ≡ seen ++ e ∷ es = append_assoc seen (e ∷ []) es in (
       ap (λ o. option_to_list o ++ completed_behind (seen ++ e ∷ []) (es ++ rest)) (no_row t seen e quiet.0) ∙ later.0 ∙ ap (λ s. completed_behind s rest) joined,
-      subst (GoesOn t) joined later.1,
+      subst (TestGoesOn t) joined later.1,
     )
 
 -- the events of one test: quiet ones, and one that completes it
-pub record IsToldAs (told : Saying) (events : List Event) : Type 0 where
+pub record IsToldAs (told : SaidOfRow) (events : List Event) : Type 0 where
   pub test : TestKey
   pub front : List Event
   pub last : Event
@@ -99,22 +99,22 @@ row_at t end seen e = row_of t end (elapsed (start_of (part_with t seen e)) (opt
 last_row : (t : TestKey) (end : Ended) (seen : List Event) (e : Event) → test_of e ≡ Some t → ended_by e.status ≡ Some end → completed_row seen e ≡ Some (row_at t end seen e)
 last_row t end seen e test ends = λ i. row_completing (test i) (ends i) seen e
 
-row_tags : (t : TestKey) (seen : List Event) (e : Event) → GoesOn t seen → last_tags (part_with t seen e) ≡ unwrap_or e.tags []
-row_tags t seen e h = last_tags_at e.tags (part_at seen t) e refl ∙ ap (unwrap_or e.tags) h.tags
+row_tags : (t : TestKey) (seen : List Event) (e : Event) → TestGoesOn t seen → last_tags (part_with t seen e) ≡ unwrap_or e.tags []
+row_tags t seen e h = last_tags_at e.tags (part_of_test seen t) e refl ∙ ap (unwrap_or e.tags) h.tags
 
-closed_behind : (t : TestKey) (end : Ended) (seen : List Event) (e : Event) → GoesOn t seen → test_of e ≡ Some t → ended_by e.status ≡ Some end → AreClosed (seen ++ e ∷ [])
+closed_behind : (t : TestKey) (end : Ended) (seen : List Event) (e : Event) → TestGoesOn t seen → test_of e ≡ Some t → ended_by e.status ≡ Some end → AreClosed (seen ++ e ∷ [])
 closed_behind t end seen e h test ends q = by_case (eq_by_cmp test_cmp q t) refl
   where
-    by_case : (b : Bool) → eq_by_cmp test_cmp q t ≡ b → part_at (seen ++ e ∷ []) q ≡ []
+    by_case : (b : Bool) → eq_by_cmp test_cmp q t ≡ b → part_of_test (seen ++ e ∷ []) q ≡ []
     by_case true is = ap last_part (spoken q seen e true (ap (speaks_of q) test ∙ is)) ∙ last_part_ends (events_of_test q seen) e (ap is_some ends)
     by_case false is = ap last_part (not_spoken q seen e (ap (speaks_of q) test ∙ is)) ∙ h.others q is
 
-record IsRowOf (told : Saying) (row : Row) : Type 0 where
+record IsRowOf (told : SaidOfRow) (row : Row) : Type 0 where
   said : said_of row ≡ told
   no_route : row.route ≡ None
 
 -- the events of one test give one row
-one_block : (told : Saying) (seen events rest : List Event) → AreClosed seen → IsToldAs told events → (row : Row) × (completed_behind seen (events ++ rest) ≡ row ∷ completed_behind (seen ++ events) rest) × IsRowOf told row × AreClosed (seen ++ events)
+one_block : (told : SaidOfRow) (seen events rest : List Event) → AreClosed seen → IsToldAs told events → (row : Row) × (completed_behind seen (events ++ rest) ≡ row ∷ completed_behind (seen ++ events) rest) × IsRowOf told row × AreClosed (seen ++ events)
 one_block told seen events rest closed b =
     let before = quiet_rows b.test seen b.front (b.last ∷ rest) b.quiet (begun b.test seen closed) in
     let inner = seen ++ b.front in
@@ -134,7 +134,7 @@ one_block told seen events rest closed b =
     )
 
 -- the events of several tests, one after another
-abbrev pub AreToldAs : List Saying → List Event → Type 0
+abbrev pub AreToldAs : List SaidOfRow → List Event → Type 0
 AreToldAs [] events = events ≡ []
 AreToldAs (told ∷ others) events = (front rest : List Event) × (events ≡ front ++ rest) × IsToldAs told front × AreToldAs others rest
 
@@ -142,7 +142,7 @@ abbrev HaveNoRoute : List Row → Type 0
 HaveNoRoute [] = ⊤
 HaveNoRoute (row ∷ rows) = (row.route ≡ None) × HaveNoRoute rows
 
-blocks : (sayings : List Saying) (seen events : List Event) → AreClosed seen → AreToldAs sayings events
+blocks : (sayings : List SaidOfRow) (seen events : List Event) → AreClosed seen → AreToldAs sayings events
     → (map said_of (completed_behind seen events) ≡ sayings) × HaveNoRoute (completed_behind seen events) × AreClosed (seen ++ events)
 blocks [] seen events closed none =
     let rows : completed_behind seen events ≡ [] = ap (completed_behind seen) none in (
@@ -163,7 +163,7 @@ blocks (told ∷ others) seen events closed (front, rest, joined, this, later) =
 -- no test is open at the end
 none_open : (seen : List Event) → AreClosed seen → (tests : List TestKey) → filter (is_open seen) tests ≡ []
 none_open seen closed [] = refl
-none_open seen closed (t ∷ tests) = ap (λ b. cond b (t ∷ filter (is_open seen) tests) (filter (is_open seen) tests)) (ap is_part (closed t)) ∙ none_open seen closed tests
+none_open seen closed (t ∷ tests) = ap (λ b. cond b (t ∷ filter (is_open seen) tests) (filter (is_open seen) tests)) (ap has_events (closed t)) ∙ none_open seen closed tests
 
 no_entries : (K V : Type 0) (R : K → K → Ordering) → ◌≡◌ {A = List (K × V)} (fin.entries (fin.empty {X = V} {R = R})) []
 no_entries K V R = none_of_length (fin.entries (fin.empty {X = V} {R = R})) (sym (len-entries (fin.empty {X = V} {R = R})) ∙ len-empty R V)
@@ -195,7 +195,7 @@ as_they_are (row ∷ rows) none =
     ∙ append-nil (filter (is_under None) (row ∷ rows)) ∙ all_under (row ∷ rows) none
 
 -- the rows of the events of several tests, one after another
-pub rows_told : (sayings : List Saying) (events : List Event) → AreToldAs sayings events → map said_of (rows_of events) ≡ sayings
+pub rows_told : (sayings : List SaidOfRow) (events : List Event) → AreToldAs sayings events → map said_of (rows_of events) ≡ sayings
 rows_told sayings events told =
     let all = blocks sayings [] events (λ t. refl) told in
     ap (λ others. map said_of (by_route (completed_behind [] events ++ others))) (no_open_rows events all.2)

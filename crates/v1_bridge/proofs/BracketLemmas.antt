@@ -4,15 +4,15 @@ use Rattle.std.specs.Prelude.{⊤, codes}
 use Rattle.std.specs.List.{ends_with}
 use Rattle.std.specs.Cmp.Lexicographic.{pointwise}
 use Rattle.std.proofs.lemmas.Bool.{cond_both, eqb-true}
-use Rattle.v1_bridge.specs.Lines.{begins, without_return}
-use Rattle.v1_bridge.specs.Stages.{is_bracket}
+use Rattle.sub_number.specs.Lines.{begins, without_return}
+use Rattle.v1_bridge.specs.Stages.{is_bracket_line}
 use Rattle.v1_bridge.specs.Cutting.{lines_behind, lines_of}
-use Rattle.v1_bridge.specs.Writing.{last_behind, quoted, newline_behind}
+use Rattle.v1_bridge.specs.Writing.{last_byte_behind, brackets_spaced, newline_behind}
 
 -- none of the lines is a bracket
 abbrev pub NoBrackets : List (List ℕ) → Type 0
 NoBrackets [] = ⊤
-NoBrackets (line ∷ lines) = (is_bracket line ≡ false) × NoBrackets lines
+NoBrackets (line ∷ lines) = (is_bracket_line line ≡ false) × NoBrackets lines
 
 pub none_then : (xs ys : List (List ℕ)) → NoBrackets xs → NoBrackets ys → NoBrackets (xs ++ ys)
 none_then [] ys first later = later
@@ -28,7 +28,7 @@ other_fronts byte bytes is (suc m) zero = refl
 other_fronts byte bytes is (suc m) (suc n) = ap (λ b. b && pointwise nat_eq [] (take m (take n bytes))) is
 
 -- a line that begins with another byte is none
-pub begins_other : (byte : ℕ) (bytes : List ℕ) → nat_eq 93 byte ≡ false → is_bracket (byte ∷ bytes) ≡ false
+pub begins_other : (byte : ℕ) (bytes : List ℕ) → nat_eq 93 byte ≡ false → is_bracket_line (byte ∷ bytes) ≡ false
 begins_other byte bytes is =
     cond_both (ends_with nat_eq (byte ∷ bytes) (10 ∷ [])) (take (length (byte ∷ bytes) - 1) (byte ∷ bytes)) (byte ∷ bytes) (λ (l : List ℕ). pointwise nat_eq (93 ∷ []) (without_return l) ≡ false)
     (λ newline. front (length (byte ∷ bytes) - 1))
@@ -44,7 +44,7 @@ begins_other byte bytes is =
 
 -- what is quoted, up to the end of its last line
 abbrev whole : ℕ → List ℕ → List ℕ
-whole before text = quoted before text ++ newline_behind (last_behind before text)
+whole before text = brackets_spaced before text ++ newline_behind (last_byte_behind before text)
 
 -- The front of a line that was begun: none behind a newline, and else one that begins with another byte than a bracket.
 abbrev IsFront : ℕ → List ℕ → Type 0
@@ -57,7 +57,7 @@ one_more front bytes byte ends goes_on = cond_both (byte == 10) ((front ++ byte 
 
 -- a line that begins with this byte
 quoted_or_not : (byte : ℕ) (text : List ℕ) (b : Bool) → nat_eq 93 byte ≡ b → ((c : ℕ) (front : List ℕ) → IsFront c front → NoBrackets (lines_behind front (whole c text)))
-    → NoBrackets (lines_behind [] ((cond (b && true) (32 ∷ []) [] ++ byte ∷ quoted byte text) ++ newline_behind (last_behind byte text)))
+    → NoBrackets (lines_behind [] ((cond (b && true) (32 ∷ []) [] ++ byte ∷ brackets_spaced byte text) ++ newline_behind (last_byte_behind byte text)))
 quoted_or_not byte text true bracket rest =
     let is : 93 ≡ byte = eqb-true 93 byte bracket in
     subst (λ c. NoBrackets (lines_behind (32 ∷ []) (c ∷ whole c text))) is (rest 93 (32 ∷ 93 ∷ []) (refl, refl))
@@ -72,7 +72,7 @@ all_lines [] before (first ∷ front) (other, not) = subst (λ b. NoBrackets (li
 all_lines (byte ∷ text) before [] is =
     subst (λ b. NoBrackets (lines_behind [] (whole b (byte ∷ text)))) (sym is) (quoted_or_not byte text (nat_eq 93 byte) refl (λ c front begun. all_lines text c front begun))
 all_lines (byte ∷ text) before (first ∷ front) (other, not) =
-    subst (λ b. NoBrackets (lines_behind (first ∷ front) ((cond (b && begins (codes "]") (byte ∷ text)) (codes " ") [] ++ byte ∷ quoted byte text) ++ newline_behind (last_behind byte text)))) (sym not)
+    subst (λ b. NoBrackets (lines_behind (first ∷ front) ((cond (b && begins (codes "]") (byte ∷ text)) (codes " ") [] ++ byte ∷ brackets_spaced byte text) ++ newline_behind (last_byte_behind byte text)))) (sym not)
     (one_more (first ∷ front) (whole byte text) byte
     (λ ten. (begins_other first (front ++ byte ∷ []) other, all_lines text byte [] (eqb-true byte 10 ten)))
     (λ on. all_lines text byte (first ∷ front ++ byte ∷ []) (other, on)))

@@ -13,6 +13,7 @@ use Rattle.std.specs.Str.Parse.{digits_value}
 use Rattle.std.proofs.lemmas.List.Elements.{All-nil, All-cons, All-append}
 use Rattle.std.proofs.lemmas.List.Sums.{sum_by-cons}
 use Rattle.sub_number.specs.Numbers.{shortest_number}
+use Rattle.sub_number.specs.Lines.{begins, without_return, with_newline}
 use Rattle.packet_codec.specs.declared.stamp.Stamp.{Stamp}
 use Rattle.packet_codec.specs.declared.event.Event.{Event}
 use Rattle.packet_codec.specs.declared.status.Status.{Status}
@@ -25,23 +26,23 @@ use Rattle.outcome_fold.specs.Order.{among, in_byte_order, without}
 use Rattle.outcome_fold.proofs.SetLemmas.{among_order}
 use Rattle.instants.specs.Instants.{Moment, instant_of}
 use Rattle.v1_bridge.specs.declared.part.Part.{Part}
-use Rattle.v1_bridge.specs.declared.size.Extent.{Extent}
-use Rattle.v1_bridge.specs.declared.size.Extent.TheVariants as extent
-use Rattle.v1_bridge.specs.declared.size.Size.{Size}
-use Rattle.v1_bridge.specs.declared.size.Size.TheVariants as size
-use Rattle.v1_bridge.specs.declared.stage.Place.{Place}
-use Rattle.v1_bridge.specs.declared.stage.Place.TheVariants as place
-use Rattle.v1_bridge.specs.declared.stage.Stage.{Stage}
-use Rattle.v1_bridge.specs.declared.stage.Stage.TheVariants as stage
-use Rattle.v1_bridge.specs.declared.stage.Details.{Details}
-use Rattle.v1_bridge.specs.declared.stage.OpenTest.{OpenTest}
-use Rattle.v1_bridge.specs.Lines.{Line, test, outcome, time, tagging, progress, other, Ended, begins, without_newline, without_return, content, time_with, test_of, outcome_of, other_of, outcome_or, test_or, line_of, is_progress}
-use Rattle.v1_bridge.specs.TagWords.{is_name, is_text, tag_in, takes_away, tags_after_word, tags_after, words_of, within_limit, retagged, most_tag_bytes}
+use Rattle.v1_bridge.specs.declared.chunk_size.Extent.{Extent}
+use Rattle.v1_bridge.specs.declared.chunk_size.Extent.TheVariants as extent
+use Rattle.v1_bridge.specs.declared.chunk_size.Size.{Size}
+use Rattle.v1_bridge.specs.declared.chunk_size.Size.TheVariants as size
+use Rattle.v1_bridge.specs.declared.details_stage.Place.{Place}
+use Rattle.v1_bridge.specs.declared.details_stage.Place.TheVariants as place
+use Rattle.v1_bridge.specs.declared.details_stage.Stage.{Stage}
+use Rattle.v1_bridge.specs.declared.details_stage.Stage.TheVariants as stage
+use Rattle.v1_bridge.specs.declared.details_stage.Details.{Details}
+use Rattle.v1_bridge.specs.declared.details_stage.OpenTest.{OpenTest}
+use Rattle.v1_bridge.specs.Lines.{V1Line, test, outcome, time, tagging, progress, other, EndedLine, without_newline, content, time_with, test_begun, outcome_of, other_of, outcome_or, test_or, line_of, is_progress}
+use Rattle.v1_bridge.specs.TagWords.{is_name, is_utf8_text, tag_in, takes_away, tags_after_word, tags_after_words, spaced_words, within_limit, retagged, most_tag_bytes}
 use Rattle.v1_bridge.specs.Sizes.{are_few_digits, is_size, may_be_size, size_with, size_in}
-use Rattle.v1_bridge.specs.Events.{longest_line, piece_at, behind_pieces, with_newline, line_event, output_of, event_with, piece_event, holding, part_with, pieces_given, rest_events, file_name, lines_part, tags_told, begun_event, completing_event}
-use Rattle.v1_bridge.specs.Stages.{Told, place_before, foreign_run, sized, size_told, size_run, chunk_run, part_run, type_of, typed_with, name_in, new_part, name_piece, unquoted, lines_run, extent_of, stage_piece, stage_line, ends_details, held_part}
-use Rattle.v1_bridge.specs.Reading.{State, Step, line, piece, with_test, complete, go_on, detail_line, ending_part, is_id_and, end_test, begin_test, change_tags, change_own_tags, outside, within, line_step, line_within, piece_within, piece_step, step, events_at_end, part_left, details_left, start}
-use Rattle.v1_bridge.specs.Fitting.{AreShortTags, IsShortPart, IsShortPlace, IsShortStage, AreShortDetails, IsShortTest, IsShort}
+use Rattle.v1_bridge.specs.Events.{longest_v1_line, piece_at, behind_pieces, line_event, stdout_events_of, event_with, piece_event, part_holding, part_with_bytes, pieces_given, rest_events, outcome_file_name, lines_part, tags_told, begun_event, completing_event}
+use Rattle.v1_bridge.specs.Stages.{StageStep, place_before, foreign_run, sized, size_told, size_run, chunk_run, part_run, type_of, typed_with, part_name_in, new_part, name_piece, unquoted, lines_run, extent_of, stage_piece, stage_line, ends_details, held_part}
+use Rattle.v1_bridge.specs.Reading.{State, LineStep, line, piece, with_test, complete, go_on, detail_line, ending_part, is_id_and, end_test, begin_test, change_tags, change_own_tags, step_outside, step_inside, line_step, line_within, piece_within, piece_step, step, events_at_end, part_left, details_left, start}
+use Rattle.v1_bridge.specs.Fitting.{AreShortTags, IsShortPart, IsShortPlace, IsShortStage, AreShortDetails, IsShortTest, IsShortState}
 use Rattle.v1_bridge.proofs.WordLemmas.{part, some_same}
 
 packet_size_most : (n : ℕ) → packet_size n ≤ n + 10
@@ -130,25 +131,25 @@ pieces_fit : (id : List ℕ) (p : Part) (bytes : List ℕ) (numbers : List ℕ) 
 pieces_fit id p bytes [] short part = All-nil Fits
 pieces_fit id p bytes (number ∷ numbers) short part =
     All-cons Fits (piece_event id p (piece_at bytes number)) (map (piece_event id p) (map (piece_at bytes) numbers))
-    (event_fits None id None status.Unset (Some (holding p (piece_at bytes number))) short tt
-    (record { mime = part.mime; name = part.name; held = omega (arith, length-take longest_line (drop (longest_line * number) bytes)) }))
+    (event_fits None id None status.Unset (Some (part_holding p (piece_at bytes number))) short tt
+    (record { mime = part.mime; name = part.name; held = omega (arith, length-take longest_v1_line (drop (longest_v1_line * number) bytes)) }))
     (pieces_fit id p bytes numbers short part)
 
 behind_short : (bytes : List ℕ) → length (behind_pieces bytes) ≤ 65535
-behind_short bytes = omega (arith, length-drop (longest_line * (length bytes / longest_line)) bytes)
+behind_short bytes = omega (arith, length-drop (longest_v1_line * (length bytes / longest_v1_line)) bytes)
 
-part_stays_short : (p : Part) (bytes : List ℕ) → IsShortPart p → IsShortPart (part_with p bytes)
+part_stays_short : (p : Part) (bytes : List ℕ) → IsShortPart p → IsShortPart (part_with_bytes p bytes)
 part_stays_short p bytes short = record { mime = short.mime; name = short.name; held = omega (arith, behind_short (p.held ++ bytes)) }
 
 given_fit : (id : List ℕ) (p : Part) (bytes : List ℕ) → length id ≤ 131072 → IsShortPart p → All Fits (pieces_given id p bytes)
-given_fit id p bytes short part = pieces_fit id p (p.held ++ bytes) (range_with_len 0 (length (p.held ++ bytes) / longest_line)) short part
+given_fit id p bytes short part = pieces_fit id p (p.held ++ bytes) (range_with_len 0 (length (p.held ++ bytes) / longest_v1_line)) short part
 
 rest_fits : (id : List ℕ) (p : Part) → length id ≤ 131072 → IsShortPart p → All Fits (rest_events id p)
 rest_fits id p short part =
     cond_both (length p.held == 0) [] (piece_event id p p.held ∷ []) (All Fits) (λ none. All-nil Fits)
-    (λ some. All-cons Fits (piece_event id p p.held) [] (event_fits None id None status.Unset (Some (holding p p.held)) short tt (record { mime = part.mime; name = part.name; held = part.held })) (All-nil Fits))
+    (λ some. All-cons Fits (piece_event id p p.held) [] (event_fits None id None status.Unset (Some (part_holding p p.held)) short tt (record { mime = part.mime; name = part.name; held = part.held })) (All-nil Fits))
 
-output_of_fits : (bytes : List ℕ) → length bytes ≤ 262144 → All Fits (output_of bytes)
+output_of_fits : (bytes : List ℕ) → length bytes ≤ 262144 → All Fits (stdout_events_of bytes)
 output_of_fits bytes short = cond_both (length bytes == 0) [] (stdout_event bytes ∷ []) (All Fits) (λ none. All-nil Fits) (λ some. All-cons Fits (stdout_event bytes) [] (output_fits bytes short) (All-nil Fits))
 
 line_fits : (bytes : List ℕ) → length bytes ≤ 262143 → All Fits (line_event bytes ∷ [])
@@ -187,10 +188,10 @@ word_some before word named some =
     (λ is. kept_some (λ text. not (among (tag_in word ∷ []) text)) before some)
     (λ is. among_order (tag_in word ∷ before) [] ∙ one_more_some (tag_in word) before named some)
 
-words_some : (before words names : List (List ℕ)) → among before [] ≡ false → tags_after before words ≡ Some names → among names [] ≡ false
+words_some : (before words names : List (List ℕ)) → among before [] ≡ false → tags_after_words before words ≡ Some names → among names [] ≡ false
 words_some before [] names some is = subst (λ (l : List (List ℕ)). among l [] ≡ false) (some_same before names is) some
 words_some before (word ∷ words) names some is =
-    let p = part (is_name (tag_in word)) (tags_after (tags_after_word before word) words) names is in
+    let p = part (is_name (tag_in word)) (tags_after_words (tags_after_word before word) words) names is in
     words_some (tags_after_word before word) words names (word_some before word p.0 some) p.1
 
 limit_short : (o : Option (List (List ℕ))) → ((names : List (List ℕ)) → o ≡ Some names → among names [] ≡ false) → IfSome (within_limit o) AreShortTags
@@ -200,7 +201,7 @@ limit_short (Some names) some =
     (λ is. record { some = some names refl; few = leb-true (sum_by length names) most_tag_bytes is }) (λ is. tt)
 
 retagged_short : (before : List (List ℕ)) (words : List ℕ) → AreShortTags before → IfSome (retagged before words) AreShortTags
-retagged_short before words short = limit_short (tags_after (in_byte_order before) (words_of words)) (λ names is. words_some (in_byte_order before) (words_of words) names (among_order before [] ∙ short.some) is)
+retagged_short before words short = limit_short (tags_after_words (in_byte_order before) (spaced_words words)) (λ names is. words_some (in_byte_order before) (spaced_words words) names (among_order before [] ∙ short.some) is)
 
 no_tags_short : AreShortTags []
 no_tags_short = record { some = refl; few = omega arith }
@@ -211,11 +212,11 @@ told_short names short = cond_both (length names == 0) None (Some names) (λ (o 
 -- ---- details
 
 -- what bytes of details give fits, and what is kept of them is short
-record ToldFits (t : Told) : Type 0 where
+record ToldFits (t : StageStep) : Type 0 where
   given : All Fits t.given
   stage : IsShortStage t.stage
 
-name_short : (how : Status) → length (file_name how) ≤ 9
+name_short : (how : Status) → length (outcome_file_name how) ≤ 9
 name_short status.Unset = omega arith
 name_short status.Exists = omega arith
 name_short status.InProgress = omega arith
@@ -234,9 +235,9 @@ place_short left = cond_both (left == 0) (place.Size []) (place.Chunk left) IsSh
 foreign_fits : (e : Extent) (so_far run : List ℕ) → length so_far ≤ 10 → length run ≤ 65537 → All Fits (foreign_run e so_far run)
 foreign_fits extent.Whole so_far run few short = line_fits (content (so_far ++ run)) (omega (arith, few, short, content_short (so_far ++ run), length-append so_far run))
 foreign_fits extent.Piece so_far run few short =
-    All-append Fits (output_of so_far) (output_of (without_newline run)) (output_of_fits so_far (omega (arith, few))) (output_of_fits (without_newline run) (omega (arith, short, newline_short run)))
+    All-append Fits (stdout_events_of so_far) (stdout_events_of (without_newline run)) (output_of_fits so_far (omega (arith, few))) (output_of_fits (without_newline run) (omega (arith, short, newline_short run)))
 foreign_fits extent.Last so_far run few short =
-    All-append Fits (output_of so_far) (output_of (without_newline run)) (output_of_fits so_far (omega (arith, few))) (output_of_fits (without_newline run) (omega (arith, short, newline_short run)))
+    All-append Fits (stdout_events_of so_far) (stdout_events_of (without_newline run)) (output_of_fits so_far (omega (arith, few))) (output_of_fits (without_newline run) (omega (arith, short, newline_short run)))
 
 sized_fits : (id : List ℕ) (p : Part) (count : ℕ) → length id ≤ 131072 → IsShortPart p → ToldFits (sized id p count)
 sized_fits id p count short part =
@@ -285,8 +286,8 @@ chunk_fits id p left run e short part least =
     cond_both (nat_le (length run) left) _ _ ToldFits
     (λ is. record { given = given_fit id p run short part; stage = (part_stays_short p run part, place_short (left - length run)) })
     (λ is.
-    let rest = size_run_fits id (part_with p (take left run)) [] (drop left run) e short (part_stays_short p (take left run) part) (omega arith) (omega (arith, least, length-drop left run)) in
-    record { given = All-append Fits (pieces_given id p (take left run)) (size_run id (part_with p (take left run)) [] (drop left run) e).given (given_fit id p (take left run) short part) rest.given; stage = rest.stage })
+    let rest = size_run_fits id (part_with_bytes p (take left run)) [] (drop left run) e short (part_stays_short p (take left run) part) (omega arith) (omega (arith, least, length-drop left run)) in
+    record { given = All-append Fits (pieces_given id p (take left run)) (size_run id (part_with_bytes p (take left run)) [] (drop left run) e).given (given_fit id p (take left run) short part) rest.given; stage = rest.stage })
 
 part_fits : (id : List ℕ) (p : Part) (pl : Place) (run : List ℕ) (e : Extent) → length id ≤ 131072 → IsShortPart p → IsShortPlace pl → length run ≤ 65537 → ToldFits (part_run id p pl run e)
 part_fits id p (place.Size so_far) run e short part few least = size_run_fits id p so_far run e short part few least
@@ -302,11 +303,11 @@ typed_fits (Some mime) bytes few short = record { given = All-nil Fits; stage = 
 new_short : (mime name : List ℕ) → length mime ≤ 131072 → length name ≤ 131072 → IsShortStage (new_part mime name)
 new_short mime name first later = (record { mime = first; name = later; held = omega arith }, omega arith)
 
-named_short : (how : Status) (bytes : List ℕ) → length bytes ≤ 65537 → length (name_in how bytes) ≤ 131072
-named_short how bytes short = cond_both (is_text bytes) bytes (file_name how) (λ (l : List ℕ). length l ≤ 131072) (λ is. omega (arith, short)) (λ is. omega (arith, name_short how))
+named_short : (how : Status) (bytes : List ℕ) → length bytes ≤ 65537 → length (part_name_in how bytes) ≤ 131072
+named_short how bytes short = cond_both (is_utf8_text bytes) bytes (outcome_file_name how) (λ (l : List ℕ). length l ≤ 131072) (λ is. omega (arith, short)) (λ is. omega (arith, name_short how))
 
 name_piece_fits : (how : Status) (mime bytes : List ℕ) (last : Bool) → length mime ≤ 131072 → length bytes ≤ 65537 → ToldFits (name_piece how mime bytes last)
-name_piece_fits how mime bytes true few short = record { given = output_of_fits (without_newline bytes) (omega (arith, short, newline_short bytes)); stage = new_short mime (file_name how) few (omega (arith, name_short how)) }
+name_piece_fits how mime bytes true few short = record { given = output_of_fits (without_newline bytes) (omega (arith, short, newline_short bytes)); stage = new_short mime (outcome_file_name how) few (omega (arith, name_short how)) }
 name_piece_fits how mime bytes false few short = record { given = output_of_fits (without_newline bytes) (omega (arith, short, newline_short bytes)); stage = few }
 
 piece_told : (id : List ℕ) (how : Status) (s : Stage) (bytes : List ℕ) (last : Bool) → length id ≤ 131072 → IsShortStage s → length bytes ≤ 65537 → ToldFits (stage_piece id how s bytes last)
@@ -318,7 +319,7 @@ piece_told id how (stage.Bytes p pl) bytes last short part least = part_fits id 
 line_told : (id : List ℕ) (how : Status) (s : Stage) (bytes : List ℕ) → length id ≤ 131072 → IsShortStage s → length bytes ≤ 65537 → ToldFits (stage_line id how s bytes)
 line_told id how (stage.Lines p) bytes short part least = lines_fit id p (with_newline (unquoted (content bytes))) short part
 line_told id how stage.Between bytes short part least = typed_fits (type_of (content bytes)) (content bytes) (type_short (content bytes) (omega (arith, least, content_short bytes))) (omega (arith, least, content_short bytes))
-line_told id how (stage.Typed mime) bytes short part least = record { given = All-nil Fits; stage = new_short mime (name_in how (content bytes)) part (named_short how (content bytes) (omega (arith, least, content_short bytes))) }
+line_told id how (stage.Typed mime) bytes short part least = record { given = All-nil Fits; stage = new_short mime (part_name_in how (content bytes)) part (named_short how (content bytes) (omega (arith, least, content_short bytes))) }
 line_told id how (stage.Bytes p pl) bytes short part least = part_fits id p pl bytes extent.Whole short part.0 part.1 least
 
 -- what is held of short details is short
@@ -335,7 +336,7 @@ ending_short (Some p) short = cond_both (length p.held == 0) None (Some p) (λ (
 -- ---- lines
 
 -- the id of a test is short
-abbrev IsShortLine : Line → Type 0
+abbrev IsShortLine : V1Line → Type 0
 IsShortLine (test id) = length id ≤ 131072
 IsShortLine (outcome how rest) = Unit {0}
 IsShortLine (time stamp) = Unit {0}
@@ -354,7 +355,7 @@ other_short bytes =
     (λ not. cond_both (begins (codes "progress: ") bytes) _ _ IsShortLine (λ is. cond_both (is_progress (drop 10 bytes)) progress other IsShortLine (λ is. tt) (λ not. tt))
     (λ not. tt)))
 
-outcome_short : (o : Option Ended) (bytes : List ℕ) → IsShortLine (outcome_or o bytes)
+outcome_short : (o : Option EndedLine) (bytes : List ℕ) → IsShortLine (outcome_or o bytes)
 outcome_short None bytes = other_short bytes
 outcome_short (Some ended) bytes = tt
 
@@ -364,22 +365,22 @@ begins_short (Some id) bytes few = few
 
 line_short : (bytes : List ℕ) → length bytes ≤ 65537 → IsShortLine (line_of bytes)
 line_short bytes short =
-    begins_short (test_of bytes) bytes
+    begins_short (test_begun bytes) bytes
     (cond_both (begins (codes "test: ") bytes) _ _ (λ (o : Option (List ℕ)). IfSome o (λ (id : List ℕ). length id ≤ 131072)) (λ is. omega (arith, short, length-drop 6 bytes))
     (λ not. cond_both (begins (codes "testing: ") bytes) _ _ (λ (o : Option (List ℕ)). IfSome o (λ (id : List ℕ). length id ≤ 131072)) (λ is. omega (arith, short, length-drop 9 bytes)) (λ not. tt)))
 
 -- ---- steps
 
 -- what a step gives fits, and what is known behind it is short
-pub record StepFits (r : Step) : Type 0 where
+pub record StepFits (r : LineStep) : Type 0 where
   pub given : All Fits r.given
-  pub state : IsShort r.state
+  pub state : IsShortState r.state
 
-module _ (s : State) (known : IsShort s) where
-  closed_short : IsShort (with_test s None)
+module _ (s : State) (known : IsShortState s) where
+  closed_short : IsShortState (with_test s None)
   closed_short = record { tags = known.tags; open_test = tt }
 
-  open_short : (t : OpenTest) → IsShortTest t → IsShort (with_test s (Some t))
+  open_short : (t : OpenTest) → IsShortTest t → IsShortState (with_test s (Some t))
   open_short t short = record { tags = known.tags; open_test = short }
 
   quiet_fits : StepFits (record { given = []; state = s })
@@ -397,7 +398,7 @@ module _ (s : State) (known : IsShort s) where
     state = closed_short;
   }
 
-  go_on_fits : (t : OpenTest) (how : Status) (told : Told) → IsShortTest t → ToldFits told → StepFits (go_on s t how told)
+  go_on_fits : (t : OpenTest) (how : Status) (told : StageStep) → IsShortTest t → ToldFits told → StepFits (go_on s t how told)
   go_on_fits t how told short fits = record { given = fits.given; state = record { tags = known.tags; open_test = record { id = short.id; tags = short.tags; details = fits.stage } } }
 
   begin_fits : (bytes id : List ℕ) → length bytes ≤ 65537 → length id ≤ 131072 → StepFits (begin_test s bytes id)
@@ -430,7 +431,7 @@ module _ (s : State) (known : IsShort s) where
   own_tags_fit t bytes None short least few = foreign_fit bytes least
   own_tags_fit t bytes (Some names) short least few = record { given = All-nil Fits; state = record { tags = known.tags; open_test = record { id = short.id; tags = few; details = tt } } }
 
-  outside_fits : (bytes : List ℕ) (l : Line) → length bytes ≤ 65537 → IsShortLine l → StepFits (outside s bytes l)
+  outside_fits : (bytes : List ℕ) (l : V1Line) → length bytes ≤ 65537 → IsShortLine l → StepFits (step_outside s bytes l)
   outside_fits bytes (test id) least few = begin_fits bytes id least few
   outside_fits bytes (outcome how rest) least few = foreign_fit bytes least
   outside_fits bytes (time stamp) least few = timed stamp
@@ -438,7 +439,7 @@ module _ (s : State) (known : IsShort s) where
   outside_fits bytes progress least few = quiet_fits
   outside_fits bytes other least few = foreign_fit bytes least
 
-  within_fits : (t : OpenTest) (bytes : List ℕ) (l : Line) → IsShortTest t → length bytes ≤ 65537 → StepFits (within s t bytes l)
+  within_fits : (t : OpenTest) (bytes : List ℕ) (l : V1Line) → IsShortTest t → length bytes ≤ 65537 → StepFits (step_inside s t bytes l)
   within_fits t bytes (test id) short least = foreign_fit bytes least
   within_fits t bytes (outcome how rest) short least = end_fits t bytes how rest short least
   within_fits t bytes (time stamp) short least = timed stamp
@@ -460,7 +461,7 @@ module _ (s : State) (known : IsShort s) where
   line_fit None bytes short least = outside_fits (content bytes) (line_of (content bytes)) (omega (arith, least, content_short bytes)) (line_short (content bytes) (omega (arith, least, content_short bytes)))
   line_fit (Some t) bytes short least = line_within_fits t t.details bytes short short.details least
 
-  piece_outside_fits : (bytes : List ℕ) → length bytes ≤ 65537 → StepFits (record { given = output_of (without_newline bytes); state = s })
+  piece_outside_fits : (bytes : List ℕ) → length bytes ≤ 65537 → StepFits (record { given = stdout_events_of (without_newline bytes); state = s })
   piece_outside_fits bytes least = record { given = output_of_fits (without_newline bytes) (omega (arith, least, newline_short bytes)); state = known }
 
   piece_within_fits : (t : OpenTest) (d : Option Details) (bytes : List ℕ) (last : Bool) → IsShortTest t → IfSome d AreShortDetails → length bytes ≤ 65537 → StepFits (piece_within s t d bytes last)
@@ -472,10 +473,10 @@ module _ (s : State) (known : IsShort s) where
   piece_fit (Some t) bytes last short least = piece_within_fits t t.details bytes last short short.details least
 
 -- a line that is short enough, where what is known is short
-pub line_fits_at : (s : State) (bytes : List ℕ) → length (without_newline bytes) ≤ longest_line → IsShort s → StepFits (step s (line bytes))
+pub line_fits_at : (s : State) (bytes : List ℕ) → length (without_newline bytes) ≤ longest_v1_line → IsShortState s → StepFits (step s (line bytes))
 line_fits_at s bytes short known = line_fit s known s.open_test bytes known.open_test (omega (arith, short, newline_one bytes))
 
-pub piece_fits_at : (s : State) (bytes : List ℕ) (last : Bool) → length (without_newline bytes) ≤ longest_line → IsShort s → StepFits (step s (piece bytes last))
+pub piece_fits_at : (s : State) (bytes : List ℕ) (last : Bool) → length (without_newline bytes) ≤ longest_v1_line → IsShortState s → StepFits (step s (piece bytes last))
 piece_fits_at s bytes last short known = piece_fit s known s.open_test bytes last known.open_test (omega (arith, short, newline_one bytes))
 
 -- at the end
@@ -491,10 +492,10 @@ test_fits : (t : Option OpenTest) → IfSome t IsShortTest → All Fits (events_
 test_fits None short = All-nil Fits
 test_fits (Some t) short = details_fit t.id t.details short.id short.details
 
-pub end_fits_at : (s : State) → IsShort s → All Fits (events_at_end s.open_test)
+pub end_fits_at : (s : State) → IsShortState s → All Fits (events_at_end s.open_test)
 end_fits_at s known = test_fits s.open_test known.open_test
 
-pub start_short : IsShort start
+pub start_short : IsShortState start
 start_short = record { tags = no_tags_short; open_test = tt }
 
 pub fit_none : (events : List Event) → events ≡ [] → All Fits events

@@ -20,7 +20,7 @@ use Rattle.outcome_fold.specs.declared.row.Row.{Row}
 use Rattle.outcome_fold.specs.declared.test_key.TestKey.{TestKey}
 use Rattle.outcome_fold.specs.declared.part.EndedPart.{EndedPart}
 use Rattle.outcome_fold.specs.Order.{test_cmp, table, in_byte_order}
-use Rattle.outcome_fold.specs.Parts.{test_of, speaks_of, events_of_test, ended_by, completes, last_part, last_tags, start_of, elapsed}
+use Rattle.outcome_fold.specs.Parts.{test_of, speaks_of, events_of_test, ended_by, has_end_status, last_part, last_tags, start_of, elapsed}
 use Rattle.outcome_fold.specs.Files.{text_of}
 use Rattle.outcome_fold.specs.Rows.{part_with, row_completing, completed_row, completed_behind, is_open, open_tests, open_rows, rows_of}
 use Rattle.outcome_fold.specs.Started.{started_of}
@@ -31,8 +31,8 @@ use Rattle.outcome_fold.proofs.CloseLemmas.{table_with}
 use Rattle.outcome_fold.proofs.SetLemmas.{order_of_none}
 use Rattle.v1_bridge.specs.Cutting.{lines_of}
 use Rattle.v1_bridge.specs.Reading.{events_at_end, v1_events}
-use Rattle.v1_bridge.specs.Writing.{last_behind, is_written, part_text, completed_text, event_text, events_behind, text_behind, text_so_far, last_byte, parts_text, v1_text}
-use Rattle.v1_bridge.specs.Laws.{IsPlain, IsPlainId, ArePlain, ArePlainTags, said_of, said_again, row_is_written, written_rows, SaysAgain}
+use Rattle.v1_bridge.specs.Writing.{last_byte_behind, is_written, ended_part_text, completed_text, event_text, events_behind_notes, text_behind, text_so_far, last_byte, parts_text, v1_text}
+use Rattle.v1_bridge.specs.Laws.{IsPlainEvent, IsPlainId, HasPlainTags, ArePlainTags, said_of, said_again, row_is_written, written_rows, SaysAgain}
 use Rattle.v1_bridge.proofs.WriteLemmas.{last_then, of_test}
 use Rattle.v1_bridge.proofs.BlockLemmas.{rows_told}
 use Rattle.v1_bridge.proofs.PartLemmas.{saying_of, IsPlainPart, ArePlainParts, part_is_written, sayings_of, part_ends, leads_parts}
@@ -41,13 +41,13 @@ use Rattle.v1_bridge.proofs.PartLemmas.{saying_of, IsPlainPart, ArePlainParts, p
 
 abbrev ArePlainEvents : List Event → Type 0
 ArePlainEvents [] = ⊤
-ArePlainEvents (e ∷ es) = IsPlain e × ArePlainEvents es
+ArePlainEvents (e ∷ es) = IsPlainEvent e × ArePlainEvents es
 
-each_plain : (es : List Event) → All IsPlain es → ArePlainEvents es
+each_plain : (es : List Event) → All IsPlainEvent es → ArePlainEvents es
 each_plain [] all = tt
-each_plain (e ∷ es) all = (All-head IsPlain e es all, each_plain es (All-tail IsPlain e es all))
+each_plain (e ∷ es) all = (All-head IsPlainEvent e es all, each_plain es (All-tail IsPlainEvent e es all))
 
-plain_push : (es : List Event) (e : Event) → ArePlainEvents es → IsPlain e → ArePlainEvents (es ++ e ∷ [])
+plain_push : (es : List Event) (e : Event) → ArePlainEvents es → IsPlainEvent e → ArePlainEvents (es ++ e ∷ [])
 plain_push [] e all this = (this, tt)
 plain_push (x ∷ es) e all this = (all.0, plain_push es e all.1 this)
 
@@ -57,12 +57,12 @@ plain_filtered p (e ∷ es) all = cond_both (p e) (e ∷ filter p es) (filter p 
 
 plain_part : (es : List Event) → ArePlainEvents es → ArePlainEvents (last_part es)
 plain_part [] all = tt
-plain_part (e ∷ es) all = cond_both (list_any completes (e ∷ es)) (last_part es) (e ∷ es) ArePlainEvents (λ is. plain_part es all.1) (λ is. all)
+plain_part (e ∷ es) all = cond_both (list_any has_end_status (e ∷ es)) (last_part es) (e ∷ es) ArePlainEvents (λ is. plain_part es all.1) (λ is. all)
 
 no_tags : ArePlainTags (in_byte_order [])
 no_tags = subst ArePlainTags (sym order_of_none) (record { forms = refl; texts = refl; short = omega arith })
 
-own_tags : (tags : Option (List (List ℕ))) → ArePlain tags → ArePlainTags (in_byte_order (unwrap_or tags []))
+own_tags : (tags : Option (List (List ℕ))) → HasPlainTags tags → ArePlainTags (in_byte_order (unwrap_or tags []))
 own_tags None plain = no_tags
 own_tags (Some names) plain = plain
 
@@ -77,15 +77,15 @@ abbrev completed_parts : List Event → List Event → List EndedPart
 completed_parts seen [] = []
 completed_parts seen (e ∷ es) = option_to_list (completed_part seen e) ++ completed_parts (seen ++ e ∷ []) es
 
-part_plain : (seen : List Event) (e : Event) (test : TestKey) → ArePlainEvents seen → IsPlain e → IsPlainId test.id → ArePlainTags (in_byte_order (started_of (part_with test seen e)).tags)
+part_plain : (seen : List Event) (e : Event) (test : TestKey) → ArePlainEvents seen → IsPlainEvent e → IsPlainId test.id → ArePlainTags (in_byte_order (started_of (part_with test seen e)).tags)
 part_plain seen e test all this id = plain_tags (part_with test seen e) (plain_push (last_part (events_of_test test seen)) e (plain_part (events_of_test test seen) (plain_filtered (λ e. speaks_of test (test_of e)) seen all)) this)
 
-one_plain : (seen : List Event) (e : Event) (id : Option (List ℕ)) (how : Option Ended) → ArePlainEvents seen → IsPlain e → ((i : List ℕ) → id ≡ Some i → IsPlainId i) → ArePlainParts (option_to_list (part_completing (option_map (λ id. record { route = e.route; id = id }) id) how seen e))
+one_plain : (seen : List Event) (e : Event) (id : Option (List ℕ)) (how : Option Ended) → ArePlainEvents seen → IsPlainEvent e → ((i : List ℕ) → id ≡ Some i → IsPlainId i) → ArePlainParts (option_to_list (part_completing (option_map (λ id. record { route = e.route; id = id }) id) how seen e))
 one_plain seen e None how all this plain = tt
 one_plain seen e (Some id) None all this plain = tt
 one_plain seen e (Some id) (Some how) all this plain = (record { id = plain id refl; tags = part_plain seen e (record { route = e.route; id = id }) all this (plain id refl) }, tt)
 
-its_id : (e : Event) → IsPlain e → (i : List ℕ) → e.id ≡ Some i → IsPlainId i
+its_id : (e : Event) → IsPlainEvent e → (i : List ℕ) → e.id ≡ Some i → IsPlainId i
 its_id e this i is = subst IsPlainId (same this.id i (sym this.has_id ∙ is)) this.plain
   where
     same : (x y : List ℕ) → ◌≡◌ {A = Option (List ℕ)} (Some x) (Some y) → x ≡ y
@@ -155,11 +155,11 @@ open_plain es all =
 
 -- ---- the text
 
-one_text : (o : Option EndedPart) (parts : List EndedPart) → completed_text 10 o ++ parts_text (last_behind 10 (completed_text 10 o)) parts ≡ parts_text 10 (option_to_list o ++ parts)
+one_text : (o : Option EndedPart) (parts : List EndedPart) → completed_text 10 o ++ parts_text (last_byte_behind 10 (completed_text 10 o)) parts ≡ parts_text 10 (option_to_list o ++ parts)
 one_text None parts = refl
 one_text (Some p) parts = refl
 
-one_ends : (o : Option EndedPart) → last_behind 10 (completed_text 10 o) ≡ 10
+one_ends : (o : Option EndedPart) → last_byte_behind 10 (completed_text 10 o) ≡ 10
 one_ends None = refl
 one_ends (Some p) = part_ends p
 
@@ -171,28 +171,28 @@ so_far_is seen [] all = refl
 so_far_is seen (e ∷ es) all =
     let o = completed_part seen e in
     let this : event_text 10 seen e (test_of e) ≡ completed_text 10 o = sym (of_test 10 seen e all.0.id o all.0.has_id refl) in
-    (λ i. this i ++ text_behind (last_behind 10 (this i)) (seen ++ e ∷ []) (notes_of es))
+    (λ i. this i ++ text_behind (last_byte_behind 10 (this i)) (seen ++ e ∷ []) (notes_of es))
     ∙ ap (λ b. completed_text 10 o ++ text_behind b (seen ++ e ∷ []) (notes_of es)) (one_ends o)
     ∙ ap (λ (l : List ℕ). completed_text 10 o ++ l) (so_far_is (seen ++ e ∷ []) es all.1)
     ∙ ap (λ b. completed_text 10 o ++ parts_text b (completed_parts (seen ++ e ∷ []) es)) (sym (one_ends o))
     ∙ one_text o (completed_parts (seen ++ e ∷ []) es)
 
-parts_end : (parts : List EndedPart) → last_behind 10 (parts_text 10 parts) ≡ 10
+parts_end : (parts : List EndedPart) → last_byte_behind 10 (parts_text 10 parts) ≡ 10
 parts_end [] = refl
 parts_end (p ∷ parts) =
-    last_then 10 (part_text 10 p) (parts_text (last_behind 10 (part_text 10 p)) parts)
-    ∙ ap (λ b. last_behind b (parts_text b parts)) (part_ends p) ∙ parts_end parts
+    last_then 10 (ended_part_text 10 p) (parts_text (last_byte_behind 10 (ended_part_text 10 p)) parts)
+    ∙ ap (λ b. last_byte_behind b (parts_text b parts)) (part_ends p) ∙ parts_end parts
 
-both_texts : (before : ℕ) (xs ys : List EndedPart) → parts_text before xs ++ parts_text (last_behind before (parts_text before xs)) ys ≡ parts_text before (xs ++ ys)
+both_texts : (before : ℕ) (xs ys : List EndedPart) → parts_text before xs ++ parts_text (last_byte_behind before (parts_text before xs)) ys ≡ parts_text before (xs ++ ys)
 both_texts before [] ys = refl
 both_texts before (x ∷ xs) ys =
-    let this = part_text before x in
-    let rest = parts_text (last_behind before this) xs in
-    append_assoc this rest (parts_text (last_behind before (this ++ rest)) ys)
+    let this = ended_part_text before x in
+    let rest = parts_text (last_byte_behind before this) xs in
+    append_assoc this rest (parts_text (last_byte_behind before (this ++ rest)) ys)
     ∙ ap (λ b. this ++ (rest ++ parts_text b ys)) (last_then before this rest)
-    ∙ ap (λ (l : List ℕ). this ++ l) (both_texts (last_behind before this) xs ys)
+    ∙ ap (λ (l : List ℕ). this ++ l) (both_texts (last_byte_behind before this) xs ys)
 
-events_are : (seen es : List Event) → events_behind seen (notes_of es) ≡ seen ++ es
+events_are : (seen es : List Event) → events_behind_notes seen (notes_of es) ≡ seen ++ es
 events_are seen [] = sym (append-nil seen)
 events_are seen (e ∷ es) = events_are (seen ++ e ∷ []) es ∙ append_assoc seen (e ∷ []) es
 
@@ -203,7 +203,7 @@ text_is : (es : List Event) → ArePlainEvents es → v1_text (notes_of es) ≡ 
 text_is es all =
     let first = parts_text 10 (completed_parts [] es) in
     let so_far : text_so_far (notes_of es) ≡ first = so_far_is [] es all in
-    let last : last_byte (notes_of es) ≡ 10 = ap (last_behind 10) so_far ∙ parts_end (completed_parts [] es) in
+    let last : last_byte (notes_of es) ≡ 10 = ap (last_byte_behind 10) so_far ∙ parts_end (completed_parts [] es) in
     (λ i. so_far i ++ parts_text (last i) (open_parts (events_are [] es i)))
     ∙ ap (λ b. first ++ parts_text b (open_parts es)) (sym (parts_end (completed_parts [] es)))
     ∙ both_texts 10 (completed_parts [] es) (open_parts es)
@@ -262,7 +262,7 @@ sayings_are es =
 
 -- ---- the law
 
-pub says_again : (es : List Event) → All IsPlain es → SaysAgain es
+pub says_again : (es : List Event) → All IsPlainEvent es → SaysAgain es
 says_again es all =
     let plain = each_plain es all in
     let parts = all_parts es in

@@ -5,8 +5,9 @@ use Rattle.std.specs.Cmp.Lexicographic.{pointwise}
 use Rattle.std.proofs.Math.Seq.{drop-append_seam, take-append_seam}
 use Rattle.std.proofs.lemmas.Bool.{and_parts, cond-false, ne_eqb, leb-true, le-ltb}
 use Rattle.packet_codec.specs.declared.event.Event.{Event}
-use Rattle.v1_bridge.specs.Lines.{without_newline, without_return, content}
-use Rattle.v1_bridge.specs.Events.{longest_line}
+use Rattle.sub_number.specs.Lines.{without_return}
+use Rattle.v1_bridge.specs.Lines.{without_newline, content}
+use Rattle.v1_bridge.specs.Events.{longest_v1_line}
 use Rattle.v1_bridge.specs.Cutting.{lines_behind, lines_of}
 use Rattle.v1_bridge.specs.Laws.{is_shown}
 use Rattle.v1_bridge.specs.Reading.{State, Input, line, step, inputs_of, state_behind, events_from}
@@ -15,8 +16,8 @@ abbrev pub IsShown : List ℕ → Type 0
 IsShown bytes = list_all is_shown bytes ≡ true
 
 -- the line of these bytes
-abbrev pub line_with : List ℕ → List ℕ
-line_with bytes = bytes ++ 10 ∷ []
+abbrev pub with_line_end : List ℕ → List ℕ
+with_line_end bytes = bytes ++ 10 ∷ []
 
 not_this : (control byte : ℕ) → control < 32 → is_shown byte ≡ true → (byte == control) ≡ false
 not_this control byte below shown = ne_eqb byte control (λ is. absurd (omega (arith, below, is, leb-true 32 byte shown)))
@@ -26,16 +27,16 @@ nor_this control byte below shown = ne_eqb control byte (λ is. absurd (omega (a
 
 -- ---- the text cut
 
-cut_here : (front bytes rest : List ℕ) → IsShown bytes → lines_behind front (bytes ++ 10 ∷ rest) ≡ line_with (front ++ bytes) ∷ lines_of rest
-cut_here front [] rest shown = ap (λ l. line_with l ∷ lines_of rest) (sym (append-nil front))
+cut_here : (front bytes rest : List ℕ) → IsShown bytes → lines_behind front (bytes ++ 10 ∷ rest) ≡ with_line_end (front ++ bytes) ∷ lines_of rest
+cut_here front [] rest shown = ap (λ l. with_line_end l ∷ lines_of rest) (sym (append-nil front))
 cut_here front (byte ∷ bytes) rest shown =
     let both = and_parts (is_shown byte) (list_all is_shown bytes) shown in
     ap (λ b. cond b ((front ++ byte ∷ []) ∷ lines_behind [] (bytes ++ 10 ∷ rest)) (lines_behind (front ++ byte ∷ []) (bytes ++ 10 ∷ rest))) (not_this 10 byte (omega arith) both.0)
     ∙ cut_here (front ++ byte ∷ []) bytes rest both.1
-    ∙ ap (λ l. line_with l ∷ lines_of rest) (append_assoc front (byte ∷ []) bytes)
+    ∙ ap (λ l. with_line_end l ∷ lines_of rest) (append_assoc front (byte ∷ []) bytes)
 
 -- a line without control characters is the first one
-pub first_cut : (bytes rest : List ℕ) → IsShown bytes → lines_of (line_with bytes ++ rest) ≡ line_with bytes ∷ lines_of rest
+pub first_cut : (bytes rest : List ℕ) → IsShown bytes → lines_of (with_line_end bytes ++ rest) ≡ with_line_end bytes ∷ lines_of rest
 first_cut bytes rest shown = ap lines_of (append_assoc bytes (10 ∷ []) rest) ∙ cut_here [] bytes rest shown
 
 -- ---- the line read
@@ -50,9 +51,9 @@ all_but_last bytes byte =
     let size : length (bytes ++ byte ∷ []) - 1 ≡ length bytes = omega (arith, length-append bytes (byte ∷ [])) in
     ap (λ n. take n (bytes ++ byte ∷ [])) size ∙ take-append_seam bytes (byte ∷ [])
 
-pub newline_gone : (bytes : List ℕ) → without_newline (line_with bytes) ≡ bytes
+pub newline_gone : (bytes : List ℕ) → without_newline (with_line_end bytes) ≡ bytes
 newline_gone bytes =
-    ap (λ l. cond (pointwise nat_eq (10 ∷ []) l) (take (length (line_with bytes) - 1) (line_with bytes)) (line_with bytes)) (last_alone bytes 10) ∙ all_but_last bytes 10
+    ap (λ l. cond (pointwise nat_eq (10 ∷ []) l) (take (length (with_line_end bytes) - 1) (with_line_end bytes)) (with_line_end bytes)) (last_alone bytes 10) ∙ all_but_last bytes 10
 
 no_return : (bytes : List ℕ) → IsShown bytes → ends_with nat_eq bytes (13 ∷ []) ≡ false
 no_return [] shown = refl
@@ -61,14 +62,14 @@ no_return (byte ∷ next ∷ bytes) shown =
     let size : length (byte ∷ next ∷ bytes) - 1 ≡ suc (length (next ∷ bytes) - 1) = omega arith in
     ap (λ n. pointwise nat_eq (13 ∷ []) (drop n (byte ∷ next ∷ bytes))) size ∙ no_return (next ∷ bytes) (and_parts (is_shown byte) (list_all is_shown (next ∷ bytes)) shown).1
 
-pub same_content : (bytes : List ℕ) → IsShown bytes → content (line_with bytes) ≡ bytes
+pub same_content : (bytes : List ℕ) → IsShown bytes → content (with_line_end bytes) ≡ bytes
 same_content bytes shown =
     ap without_return (newline_gone bytes) ∙ cond-false (ends_with nat_eq bytes (13 ∷ [])) (take (length bytes - 1) bytes) bytes (no_return bytes shown)
 
 -- a line that is short enough is read as one
-pub one_input : (bytes : List ℕ) → length bytes ≤ longest_line → inputs_of (line_with bytes) ≡ line (line_with bytes) ∷ []
+pub one_input : (bytes : List ℕ) → length bytes ≤ longest_v1_line → inputs_of (with_line_end bytes) ≡ line (with_line_end bytes) ∷ []
 one_input bytes short =
-    cond-false _ _ (line (line_with bytes) ∷ []) (le-ltb longest_line (length (without_newline (line_with bytes))) (omega (arith, short, ap length (newline_gone bytes))))
+    cond-false _ _ (line (with_line_end bytes) ∷ []) (le-ltb longest_v1_line (length (without_newline (with_line_end bytes))) (omega (arith, short, ap length (newline_gone bytes))))
 
 -- ---- inputs in turn
 

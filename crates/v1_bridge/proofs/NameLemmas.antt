@@ -7,17 +7,17 @@ use Rattle.std.proofs.lemmas.Str.{IsUtf8-from_is_utf8, is_utf8-from_IsUtf8}
 use Rattle.std.specs.List.{list_all}
 use Rattle.std.specs.Str.{is_utf8}
 use Rattle.sub_number.specs.Texts.{IsShortText}
-use Rattle.v1_bridge.specs.TagWords.{is_text}
+use Rattle.v1_bridge.specs.TagWords.{is_utf8_text}
 
 abbrev is_byte : ℕ → Bool
 is_byte byte = not (byte == 0)
 
-pub text_is : (bytes : List ℕ) → IsShortText bytes → is_text bytes ≡ true
+pub text_is : (bytes : List ℕ) → IsShortText bytes → is_utf8_text bytes ≡ true
 text_is bytes text =
     and_from (is_utf8 bytes) (list_all is_byte bytes) (is_utf8-from_IsUtf8 bytes text.text.utf8)
     (list_all-from_AllPass is_byte bytes (All-weaker (λ byte. byte ≢ 0) (λ byte. is_byte byte ≡ true) (λ byte other. not_from_false (byte == 0) (ne_eqb byte 0 other)) bytes text.text.no_nul))
 
-pub is_short_text : (bytes : List ℕ) → is_text bytes ≡ true → length bytes < 2 ^ 30 → IsShortText bytes
+pub is_short_text : (bytes : List ℕ) → is_utf8_text bytes ≡ true → length bytes < 2 ^ 30 → IsShortText bytes
 is_short_text bytes is short =
     let b = and_parts (is_utf8 bytes) (list_all is_byte bytes) is in
     record {
@@ -28,8 +28,8 @@ is_short_text bytes is short =
       short = short;
     }
 
-pub told : (bytes : List ℕ) → IsShortText bytes → ◌≡◌ {A = Option (List ℕ)} (Some bytes) (cond (is_text bytes) (Some bytes) None)
-told bytes text = sym (cond-true (is_text bytes) (Some bytes) None (text_is bytes text))
+pub told : (bytes : List ℕ) → IsShortText bytes → ◌≡◌ {A = Option (List ℕ)} (Some bytes) (cond (is_utf8_text bytes) (Some bytes) None)
+told bytes text = sym (cond-true (is_utf8_text bytes) (Some bytes) None (text_is bytes text))
 
-pub not_told : (bytes : List ℕ) → (IsShortText bytes → ⊥) → length bytes < 2 ^ 30 → ◌≡◌ {A = Option (List ℕ)} None (cond (is_text bytes) (Some bytes) None)
-not_told bytes not short = sym (cond-false (is_text bytes) (Some bytes) None (false_from_ne_true (is_text bytes) (λ text. not (is_short_text bytes text short))))
+pub not_told : (bytes : List ℕ) → (IsShortText bytes → ⊥) → length bytes < 2 ^ 30 → ◌≡◌ {A = Option (List ℕ)} None (cond (is_utf8_text bytes) (Some bytes) None)
+not_told bytes not short = sym (cond-false (is_utf8_text bytes) (Some bytes) None (false_from_ne_true (is_utf8_text bytes) (λ text. not (is_short_text bytes text short))))

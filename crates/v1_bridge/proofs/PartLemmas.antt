@@ -11,15 +11,15 @@ use Rattle.outcome_fold.specs.Order.{in_byte_order}
 use Rattle.outcome_fold.specs.Files.{text_shown}
 use Rattle.outcome_fold.proofs.SetLemmas.{order_again}
 use Rattle.v1_bridge.specs.Events.{begun_event, completing_event, tags_told}
-use Rattle.v1_bridge.specs.Writing.{last_behind, time_line, test_line, tags_line, outcome_word, outcome_line, details_of, lines_of_part, is_written, part_text, parts_text}
-use Rattle.v1_bridge.specs.Laws.{IsPlainId, ArePlainTags, Saying, end_again}
+use Rattle.v1_bridge.specs.Writing.{last_byte_behind, time_line, test_begin_line, v1_tags_line, outcome_word, outcome_line, details_of, lines_of_part, is_written, ended_part_text, parts_text}
+use Rattle.v1_bridge.specs.Laws.{IsPlainId, ArePlainTags, SaidOfRow, end_again}
 use Rattle.v1_bridge.proofs.WriteLemmas.{ends_line}
 use Rattle.v1_bridge.proofs.BlockLemmas.{quiet_then, IsToldAs, AreToldAs}
-use Rattle.v1_bridge.proofs.AgainLemmas.{inner, outer, test_with, Leads, leads_none, leads_then, leads_same, leads_time_outer, leads_time_inner, leads_test, leads_tags, id_shown}
+use Rattle.v1_bridge.proofs.AgainLemmas.{inner, outer, test_without_route, Leads, leads_none, leads_then, leads_same, leads_time_outer, leads_time_inner, leads_test, leads_tags, id_shown}
 use Rattle.v1_bridge.proofs.DetailLemmas.{status_again, read_end, leads_outcome}
 
 -- what is said again of a part
-abbrev pub saying_of : EndedPart → Saying
+abbrev pub saying_of : EndedPart → SaidOfRow
 saying_of p = record { id = p.key.id; tags = in_byte_order p.started.tags; ended = end_again p.ended }
 
 -- its id and its tags are told as they are
@@ -38,7 +38,7 @@ pub leads_part : (last : Option Stamp) (p : EndedPart) → is_written p.ended �
 leads_part last p written plain =
     let id = p.key.id in
     let names = in_byte_order p.started.tags in
-    let test = test_with id in
+    let test = test_without_route id in
     let ordered : in_byte_order names ≡ names = order_again p.started.tags in
     let (given, now, first, quiet) = leads_time_outer test last p.started.start in
     let (more, at, second, still) = leads_time_inner test now id names p.end in
@@ -48,11 +48,11 @@ leads_part last p written plain =
     leads_same (inner at id names) (outer at) (outcome_word p.ended ++ id ++ details_of p.ended (text_shown p.started.files)) (outcome_line p.ended id (text_shown p.started.files)) (front ++ ends ∷ [])
     (ap (λ (l : List ℕ). outcome_word p.ended ++ l ++ details_of p.ended (text_shown p.started.files)) (sym (id_shown id plain.id))) third in
     let begun = begun_event now id ∷ [] in
-    let one = leads_then (outer last) (outer now) (inner now id []) (time_line p.started.start) (test_line id) given begun first (leads_test now id plain.id) in
-    let two = leads_then (outer last) (inner now id []) (inner now id names) (time_line p.started.start ++ test_line id) (tags_line names) (given ++ begun) [] one (leads_tags now id names plain.tags ordered) in
-    let three = leads_then (outer last) (inner now id names) (inner at id names) (time_line p.started.start ++ test_line id ++ tags_line names) (time_line p.end) (given ++ begun ++ []) more two second in
+    let one = leads_then (outer last) (outer now) (inner now id []) (time_line p.started.start) (test_begin_line id) given begun first (leads_test now id plain.id) in
+    let two = leads_then (outer last) (inner now id []) (inner now id names) (time_line p.started.start ++ test_begin_line id) (v1_tags_line names) (given ++ begun) [] one (leads_tags now id names plain.tags ordered) in
+    let three = leads_then (outer last) (inner now id names) (inner at id names) (time_line p.started.start ++ test_begin_line id ++ v1_tags_line names) (time_line p.end) (given ++ begun ++ []) more two second in
     let behind = given ++ begun ++ [] ++ more in
-    let all = leads_then (outer last) (inner at id names) (outer at) (time_line p.started.start ++ test_line id ++ tags_line names ++ time_line p.end) (outcome_line p.ended id (text_shown p.started.files)) behind (front ++ ends ∷ []) three outcome in
+    let all = leads_then (outer last) (inner at id names) (outer at) (time_line p.started.start ++ test_begin_line id ++ v1_tags_line names ++ time_line p.end) (outcome_line p.ended id (text_shown p.started.files)) behind (front ++ ends ∷ []) three outcome in
     let quiet_first = quiet_then test (given ++ begun) [] (quiet_then test given begun quiet (inr (refl, refl, refl), tt)) tt in (
       behind ++ (front ++ ends ∷ []),
       at,
@@ -71,15 +71,15 @@ leads_part last p written plain =
       },
     )
 
-pub part_ends : (p : EndedPart) → last_behind 10 (part_text 10 p) ≡ 10
-part_ends p = cond_both (is_written p.ended) (lines_of_part p) [] (λ (l : List ℕ). last_behind 10 l ≡ 10) (λ is. ends_line 10 p) (λ is. refl)
+pub part_ends : (p : EndedPart) → last_byte_behind 10 (ended_part_text 10 p) ≡ 10
+part_ends p = cond_both (is_written p.ended) (lines_of_part p) [] (λ (l : List ℕ). last_byte_behind 10 l ≡ 10) (λ is. ends_line 10 p) (λ is. refl)
 
 -- ---- parts, one after another
 
 abbrev pub part_is_written : EndedPart → Bool
 part_is_written p = is_written p.ended
 
-abbrev pub sayings_of : List EndedPart → List Saying
+abbrev pub sayings_of : List EndedPart → List SaidOfRow
 sayings_of parts = map saying_of (filter part_is_written parts)
 
 abbrev pub ArePlainParts : List EndedPart → Type 0
@@ -95,7 +95,7 @@ leads_more last p parts true written plain rest =
     let (more, at, later, others) = rest now in
     let text : lines_of_part p ++ parts_text 10 parts ≡ parts_text 10 (p ∷ parts) =
     ap (λ (l : List ℕ). l ++ parts_text 10 parts) (sym (cond-true (is_written p.ended) (lines_of_part p) [] written))
-    ∙ ap (λ b. part_text 10 p ++ parts_text b parts) (sym (part_ends p)) in (
+    ∙ ap (λ b. ended_part_text 10 p ++ parts_text b parts) (sym (part_ends p)) in (
       given ++ more,
       at,
       leads_same (outer last) (outer at) (lines_of_part p ++ parts_text 10 parts) (parts_text 10 (p ∷ parts)) (given ++ more) text (leads_then (outer last) (outer now) (outer at) (lines_of_part p) (parts_text 10 parts) given more first later),
@@ -105,7 +105,7 @@ leads_more last p parts false not plain rest =
     let (more, at, later, others) = rest last in
     let text : parts_text 10 parts ≡ parts_text 10 (p ∷ parts) =
     ap (λ (l : List ℕ). l ++ parts_text 10 parts) (sym (cond-false (is_written p.ended) (lines_of_part p) [] not))
-    ∙ ap (λ b. part_text 10 p ++ parts_text b parts) (sym (part_ends p)) in (
+    ∙ ap (λ b. ended_part_text 10 p ++ parts_text b parts) (sym (part_ends p)) in (
       more,
       at,
       leads_same (outer last) (outer at) (parts_text 10 parts) (parts_text 10 (p ∷ parts)) more text later,

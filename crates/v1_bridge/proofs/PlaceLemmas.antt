@@ -1,8 +1,8 @@
 -- A line of details that is taken where the open test stands.
 use Rattle.std.proofs.Common.{◌≡◌, ℕ, Bool, true, false, cond, Option, Some, List, Result, Ok, Err, IfOk, sym, ap, ◌∙◌}
-use Rattle.v1_bridge.specs.declared.stage.Stage.{Stage}
-use Rattle.v1_bridge.specs.declared.stage.Details.{Details}
-use Rattle.v1_bridge.specs.declared.stage.OpenTest.{OpenTest}
+use Rattle.v1_bridge.specs.declared.details_stage.Stage.{Stage}
+use Rattle.v1_bridge.specs.declared.details_stage.Details.{Details}
+use Rattle.v1_bridge.specs.declared.details_stage.OpenTest.{OpenTest}
 use Rattle.v1_bridge.specs.Stages.{stage_line, ends_details, held_part}
 use Rattle.v1_bridge.specs.Reading.{State, with_test, detailed, ending_part, complete, go_on, line_within, line_step}
 

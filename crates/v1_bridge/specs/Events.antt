@@ -8,64 +8,61 @@ use Rattle.packet_codec.specs.declared.event.FilePart.{FilePart}
 use Rattle.packet_codec.specs.declared.status.Status.{Status}
 use Rattle.packet_codec.specs.declared.status.Status.TheVariants as status
 use Rattle.stream_reader.specs.Notes.{stdout_event}
+use Rattle.sub_number.specs.Lines.{with_newline}
 use Rattle.v1_bridge.specs.declared.part.Part.{Part}
 
 -- Pieces.
 
 -- the most bytes of a line, its carriage return counted, and those of a piece
-abbrev pub longest_line : ℕ
-longest_line = 65536
+abbrev pub longest_v1_line : ℕ
+longest_v1_line = 65536
 
 -- the piece of so many bytes, counted from 0
 abbrev pub piece_at : List ℕ → ℕ → List ℕ
-piece_at bytes number = take longest_line (drop (longest_line * number) bytes)
+piece_at bytes number = take longest_v1_line (drop (longest_v1_line * number) bytes)
 
 -- the pieces of so many bytes at the front
 abbrev pub full_pieces : List ℕ → List (List ℕ)
-full_pieces bytes = map (piece_at bytes) (range_with_len 0 (length bytes / longest_line))
+full_pieces bytes = map (piece_at bytes) (range_with_len 0 (length bytes / longest_v1_line))
 
 -- what stands behind them
 abbrev pub behind_pieces : List ℕ → List ℕ
-behind_pieces bytes = drop (longest_line * (length bytes / longest_line)) bytes
+behind_pieces bytes = drop (longest_v1_line * (length bytes / longest_v1_line)) bytes
 
 -- Output.
-
--- the bytes and one newline more, also where they end with one
-abbrev pub with_newline : List ℕ → List ℕ
-with_newline bytes = bytes ++ 10 ∷ []
 
 -- the event of a line that is no part of a test
 abbrev pub line_event : List ℕ → Event
 line_event bytes = stdout_event (with_newline bytes)
 
 -- the event of a piece that is no part of a test, where it has bytes
-abbrev pub output_of : List ℕ → List Event
-output_of bytes = if length bytes == 0 then [] else stdout_event bytes ∷ []
+abbrev pub stdout_events_of : List ℕ → List Event
+stdout_events_of bytes = if length bytes == 0 then [] else stdout_event bytes ∷ []
 
 -- Events of a test.
 
 -- the name of the file of a test that ended so
-abbrev pub file_name : Status → List ℕ
-file_name status.Unset = codes "traceback"
-file_name status.Exists = codes "traceback"
-file_name status.InProgress = codes "traceback"
-file_name status.Success = codes "message"
-file_name status.UxSuccess = codes "message"
-file_name status.Skip = codes "reason"
-file_name status.Fail = codes "traceback"
-file_name status.XFail = codes "traceback"
+abbrev pub outcome_file_name : Status → List ℕ
+outcome_file_name status.Unset = codes "traceback"
+outcome_file_name status.Exists = codes "traceback"
+outcome_file_name status.InProgress = codes "traceback"
+outcome_file_name status.Success = codes "message"
+outcome_file_name status.UxSuccess = codes "message"
+outcome_file_name status.Skip = codes "reason"
+outcome_file_name status.Fail = codes "traceback"
+outcome_file_name status.XFail = codes "traceback"
 
 -- the MIME type of details that tell none: those of lines up to a bracket
-abbrev pub mime_type : List ℕ
-mime_type = codes "text/plain;charset=utf8"
+abbrev pub details_mime : List ℕ
+details_mime = codes "text/plain;charset=utf8"
 
 -- the part that the lines of a test are that ended so, before the first of them
 abbrev pub lines_part : Status → Part
-lines_part how = record { mime = mime_type; name = file_name how; held = [] }
+lines_part how = record { mime = details_mime; name = outcome_file_name how; held = [] }
 
 -- the file of what is held of a part
-abbrev pub file_of : Part → FilePart
-file_of p = record { name = p.name; bytes = p.held }
+abbrev pub held_file : Part → FilePart
+held_file p = record { name = p.name; bytes = p.held }
 
 -- an event of a test, with what is held of this part
 abbrev pub event_with : Option Stamp → List ℕ → Option (List (List ℕ)) → Status → Option Part → Event
@@ -76,7 +73,7 @@ event_with last id names how part = record {
   runnable = true;
   status = how;
   mime = option_map (λ (p : Part). p.mime) part;
-  file = option_map file_of part;
+  file = option_map held_file part;
   eof = false;
   route = None;
 }
@@ -96,16 +93,16 @@ completing_event last id names how part = event_with last id (tags_told names) h
 -- Parts.
 
 -- the part, of which these bytes are held
-abbrev pub holding : Part → List ℕ → Part
-holding p bytes = record { mime = p.mime; name = p.name; held = bytes }
+abbrev pub part_holding : Part → List ℕ → Part
+part_holding p bytes = record { mime = p.mime; name = p.name; held = bytes }
 
 -- the event of bytes of a part of the open test
 abbrev pub piece_event : List ℕ → Part → List ℕ → Event
-piece_event id p bytes = event_with None id None status.Unset (Some (holding p bytes))
+piece_event id p bytes = event_with None id None status.Unset (Some (part_holding p bytes))
 
 -- the part, with these bytes behind those held, of which no full piece is held
-abbrev pub part_with : Part → List ℕ → Part
-part_with p bytes = holding p (behind_pieces (p.held ++ bytes))
+abbrev pub part_with_bytes : Part → List ℕ → Part
+part_with_bytes p bytes = part_holding p (behind_pieces (p.held ++ bytes))
 
 -- the events of the full pieces
 abbrev pub pieces_given : List ℕ → Part → List ℕ → List Event

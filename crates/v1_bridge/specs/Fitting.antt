@@ -3,12 +3,12 @@ use Rattle.std.specs.Prelude.{◌≡◌, ℕ, ◌≤◌, false, IfSome, List, []
 use Rattle.std.specs.List.{sum_by}
 use Rattle.outcome_fold.specs.Order.{among}
 use Rattle.v1_bridge.specs.declared.part.Part.{Part}
-use Rattle.v1_bridge.specs.declared.stage.Place.{Place}
-use Rattle.v1_bridge.specs.declared.stage.Place.TheVariants as place
-use Rattle.v1_bridge.specs.declared.stage.Stage.{Stage}
-use Rattle.v1_bridge.specs.declared.stage.Stage.TheVariants as stage
-use Rattle.v1_bridge.specs.declared.stage.Details.{Details}
-use Rattle.v1_bridge.specs.declared.stage.OpenTest.{OpenTest}
+use Rattle.v1_bridge.specs.declared.details_stage.Place.{Place}
+use Rattle.v1_bridge.specs.declared.details_stage.Place.TheVariants as place
+use Rattle.v1_bridge.specs.declared.details_stage.Stage.{Stage}
+use Rattle.v1_bridge.specs.declared.details_stage.Stage.TheVariants as stage
+use Rattle.v1_bridge.specs.declared.details_stage.Details.{Details}
+use Rattle.v1_bridge.specs.declared.details_stage.OpenTest.{OpenTest}
 use Rattle.v1_bridge.specs.Reading.{State}
 
 -- tags of a set: none is empty, and they have no more bytes than a set may have
@@ -45,6 +45,6 @@ pub record IsShortTest (t : OpenTest) : Type 0 where
   pub details : IfSome t.details AreShortDetails
 
 -- what is known behind some lines is short
-pub record IsShort (s : State) : Type 0 where
+pub record IsShortState (s : State) : Type 0 where
   pub tags : AreShortTags s.tags
   pub open_test : IfSome s.open_test IsShortTest

@@ -5,18 +5,18 @@ use Rattle.v1_bridge.specs.declared.line.Line.{Line as Read}
 use Rattle.v1_bridge.specs.declared.line.Line.TheVariants as read
 use Rattle.v1_bridge.specs.declared.line.Outcome.{Outcome}
 use Rattle.v1_bridge.specs.declared.reader.V1Reader.{V1Reader}
-use Rattle.v1_bridge.specs.declared.stage.OpenTest.{OpenTest}
-use Rattle.v1_bridge.specs.declared.stage.Stage.{Stage}
-use Rattle.v1_bridge.specs.Lines.{Line, Ended, test, outcome, time, tagging, progress, other}
+use Rattle.v1_bridge.specs.declared.details_stage.OpenTest.{OpenTest}
+use Rattle.v1_bridge.specs.declared.details_stage.Stage.{Stage}
+use Rattle.v1_bridge.specs.Lines.{V1Line, EndedLine, test, outcome, time, tagging, progress, other}
 use Rattle.v1_bridge.specs.Reading.{with_test, State, Input, start, state_behind}
-use Rattle.v1_bridge.specs.Fitting.{IsShort}
+use Rattle.v1_bridge.specs.Fitting.{IsShortState}
 
 -- how a test ended, by the bytes that the code lends
-abbrev pub ended_meant : Outcome → Ended
+abbrev pub ended_meant : Outcome → EndedLine
 ended_meant o = record { how = o.how; rest = o.rest.now }
 
 -- what a line is, by the bytes that the code lends
-abbrev pub line_meant : Read → Line
+abbrev pub line_meant : Read → V1Line
 line_meant (read.Test id) = test id.now
 line_meant (read.Outcome o) = outcome o.how o.rest.now
 line_meant (read.Time stamp) = time stamp
@@ -55,4 +55,4 @@ HasRead reader inputs = state_of reader ≡ state_behind start inputs
 
 -- What the reader knows is short. So it is from the start on, and each event that a short line gives has a packet.
 abbrev pub HoldsLittle : V1Reader → Type 0
-HoldsLittle reader = IsShort (state_of reader)
+HoldsLittle reader = IsShortState (state_of reader)

@@ -8,7 +8,7 @@ use Rattle.outcome_fold.specs.declared.row.Ended.TheVariants as ended
 use Rattle.outcome_fold.specs.declared.row.Row.{Row}
 use Rattle.outcome_fold.specs.Order.{in_byte_order}
 use Rattle.outcome_fold.specs.Rows.{completed_rows, open_rows, rows_of}
-use Rattle.v1_bridge.specs.TagWords.{is_name, is_text}
+use Rattle.v1_bridge.specs.TagWords.{is_name, is_utf8_text}
 use Rattle.v1_bridge.specs.Writing.{is_written, is_line_tag, tag_words, v1_text}
 use Rattle.v1_bridge.specs.Cutting.{lines_of}
 use Rattle.v1_bridge.specs.Reading.{v1_events}
@@ -26,29 +26,29 @@ pub record IsPlainId (id : List ℕ) : Type 0 where
 -- tags that one line tells, all of them
 pub record ArePlainTags (names : List (List ℕ)) : Type 0 where
   pub forms : IsTrue (list_all is_line_tag names)
-  pub texts : IsTrue (list_all is_text names)
+  pub texts : IsTrue (list_all is_utf8_text names)
   pub short : length (tag_words names) ≤ 65001
 
 -- the set of an event's tags, where it has any, is such
-abbrev pub ArePlain : Option (List (List ℕ)) → Type 0
-ArePlain None = Unit {0}
-ArePlain (Some names) = ArePlainTags (in_byte_order names)
+abbrev pub HasPlainTags : Option (List (List ℕ)) → Type 0
+HasPlainTags None = Unit {0}
+HasPlainTags (Some names) = ArePlainTags (in_byte_order names)
 
 -- an event whose id and tags lines tell as they are
-pub record IsPlain (e : Event) : Type 0 where
+pub record IsPlainEvent (e : Event) : Type 0 where
   pub id : List ℕ
   pub has_id : e.id ≡ Some id
   pub plain : IsPlainId id
-  pub tags : ArePlain e.tags
+  pub tags : HasPlainTags e.tags
 
 -- what is said of a row: its id, its tags and how the test ended
-pub record Saying : Type 0 where
+pub record SaidOfRow : Type 0 where
   pub id : List ℕ
   pub tags : List (List ℕ)
   pub ended : Ended
 
 -- what is said of a row as it stands
-abbrev pub said_of : Row → Saying
+abbrev pub said_of : Row → SaidOfRow
 said_of row = record { id = row.id; tags = row.tags; ended = row.ended }
 
 -- how the end of a test is read again: an open test has failed
@@ -62,7 +62,7 @@ end_again ended.XFail = ended.XFail
 end_again ended.Open = ended.Fail
 
 -- what is said again of a row that was written
-abbrev pub said_again : Row → Saying
+abbrev pub said_again : Row → SaidOfRow
 said_again row = record { id = row.id; tags = row.tags; ended = end_again row.ended }
 
 -- the row is of a part that is written: any but one that only tells that its test exists

@@ -3,11 +3,12 @@ use Rattle.std.specs.Prelude.{ℕ, ◌&&◌, ◌||◌, Bool, List, [], ◌∷◌
 use Rattle.std.specs.Char.{is_ascii_hexdigit}
 use Rattle.std.specs.List.{list_all, ends_with}
 use Rattle.std.specs.Str.Parse.{digits_value}
-use Rattle.v1_bridge.specs.declared.size.Extent.{Extent}
-use Rattle.v1_bridge.specs.declared.size.Extent.TheVariants as extent
-use Rattle.v1_bridge.specs.declared.size.Size.{Size}
-use Rattle.v1_bridge.specs.declared.size.Size.TheVariants as size
-use Rattle.v1_bridge.specs.Lines.{content, without_return}
+use Rattle.sub_number.specs.Lines.{without_return}
+use Rattle.v1_bridge.specs.declared.chunk_size.Extent.{Extent}
+use Rattle.v1_bridge.specs.declared.chunk_size.Extent.TheVariants as extent
+use Rattle.v1_bridge.specs.declared.chunk_size.Size.{Size}
+use Rattle.v1_bridge.specs.declared.chunk_size.Size.TheVariants as size
+use Rattle.v1_bridge.specs.Lines.{content}
 
 -- at most 8 hexadecimal digits, of either case
 abbrev pub are_few_digits : List ℕ → Bool

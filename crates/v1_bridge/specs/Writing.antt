@@ -14,12 +14,12 @@ use Rattle.outcome_fold.specs.Parts.{test_of}
 use Rattle.outcome_fold.specs.Files.{text_shown}
 use Rattle.outcome_fold.specs.EndedParts.{completed_part, open_parts}
 use Rattle.instants.specs.Instants.{instant_text}
-use Rattle.v1_bridge.specs.Lines.{begins}
+use Rattle.sub_number.specs.Lines.{begins}
 
 -- the last of the bytes, or else the one before them
-abbrev pub last_behind : ℕ → List ℕ → ℕ
-last_behind before [] = before
-last_behind before (byte ∷ bytes) = last_behind byte bytes
+abbrev pub last_byte_behind : ℕ → List ℕ → ℕ
+last_byte_behind before [] = before
+last_byte_behind before (byte ∷ bytes) = last_byte_behind byte bytes
 
 -- The lines of one part.
 
@@ -37,8 +37,8 @@ abbrev pub shown_id : List ℕ → List ℕ
 shown_id id = if length id == 0 then codes "?" else map shown_byte id
 
 -- the line that begins the test of this id
-abbrev pub test_line : List ℕ → List ℕ
-test_line id = codes "test: " ++ shown_id id ++ codes "\n"
+abbrev pub test_begin_line : List ℕ → List ℕ
+test_begin_line id = codes "test: " ++ shown_id id ++ codes "\n"
 
 -- greater than a space
 abbrev pub is_plain : ℕ → Bool
@@ -57,8 +57,8 @@ abbrev pub tag_words : List (List ℕ) → List ℕ
 tag_words names = flat_map behind_space (filter is_line_tag names)
 
 -- a line with these tags, where a line can tell one of them
-abbrev pub tags_line : List (List ℕ) → List ℕ
-tags_line names = if list_any is_line_tag names then codes "tags:" ++ tag_words names ++ codes "\n" else []
+abbrev pub v1_tags_line : List (List ℕ) → List ℕ
+v1_tags_line names = if list_any is_line_tag names then codes "tags:" ++ tag_words names ++ codes "\n" else []
 
 -- the word of an outcome, and its colon
 abbrev pub outcome_word : Ended → List ℕ
@@ -71,9 +71,9 @@ outcome_word ended.XFail = codes "xfail: "
 outcome_word ended.Open = codes "error: "
 
 -- The bytes with a space before each bracket that begins a line. The byte before them says whether the first does.
-abbrev pub quoted : ℕ → List ℕ → List ℕ
-quoted before [] = []
-quoted before (byte ∷ bytes) = (if before == 10 && begins (codes "]") (byte ∷ bytes) then codes " " else []) ++ byte ∷ quoted byte bytes
+abbrev pub brackets_spaced : ℕ → List ℕ → List ℕ
+brackets_spaced before [] = []
+brackets_spaced before (byte ∷ bytes) = (if before == 10 && begins (codes "]") (byte ∷ bytes) then codes " " else []) ++ byte ∷ brackets_spaced byte bytes
 
 -- one line, with a space before it where it begins with a bracket
 abbrev pub quoted_line : List ℕ → List ℕ
@@ -85,7 +85,7 @@ newline_behind byte = if byte == 10 then [] else 10 ∷ []
 
 -- the text as whole lines, quoted
 abbrev pub text_lines : List ℕ → List ℕ
-text_lines text = quoted 10 text ++ newline_behind (last_behind 10 text)
+text_lines text = brackets_spaced 10 text ++ newline_behind (last_byte_behind 10 text)
 
 -- one more line, where the test was left open
 abbrev pub open_line : Ended → List ℕ
@@ -116,7 +116,7 @@ outcome_line how id text = outcome_word how ++ shown_id id ++ details_of how tex
 -- the lines of one part of a test
 abbrev pub lines_of_part : EndedPart → List ℕ
 lines_of_part p =
-    time_line p.started.start ++ test_line p.key.id ++ tags_line (in_byte_order p.started.tags) ++ time_line p.end ++ outcome_line p.ended p.key.id (text_shown p.started.files)
+    time_line p.started.start ++ test_begin_line p.key.id ++ v1_tags_line (in_byte_order p.started.tags) ++ time_line p.end ++ outcome_line p.ended p.key.id (text_shown p.started.files)
 
 -- Lists of events.
 
@@ -131,13 +131,13 @@ is_written ended.XFail = true
 is_written ended.Open = true
 
 -- what is written of a part behind this byte: a newline first, where that is none
-abbrev pub part_text : ℕ → EndedPart → List ℕ
-part_text last p = if is_written p.ended then newline_behind last ++ lines_of_part p else []
+abbrev pub ended_part_text : ℕ → EndedPart → List ℕ
+ended_part_text last p = if is_written p.ended then newline_behind last ++ lines_of_part p else []
 
 -- what is written behind this byte at an event: the part that it completes, where it completes one
 abbrev pub completed_text : ℕ → Option EndedPart → List ℕ
 completed_text last None = []
-completed_text last (Some p) = part_text last p
+completed_text last (Some p) = ended_part_text last p
 
 -- the bytes of an event's file, and none where it has no file
 abbrev pub file_bytes : Option FilePart → List ℕ
@@ -165,19 +165,19 @@ seen_with seen (note.Foreign bytes) = seen
 seen_with seen (note.Event e) = seen ++ e ∷ []
 
 -- the events among notes, behind these
-abbrev pub events_behind : List Event → List Note → List Event
-events_behind seen [] = seen
-events_behind seen (n ∷ notes) = events_behind (seen_with seen n) notes
+abbrev pub events_behind_notes : List Event → List Note → List Event
+events_behind_notes seen [] = seen
+events_behind_notes seen (n ∷ notes) = events_behind_notes (seen_with seen n) notes
 
 -- the events among all notes, in order, without foreign bytes
 abbrev pub events_in : List Note → List Event
-events_in notes = events_behind [] notes
+events_in notes = events_behind_notes [] notes
 
 -- what is written of notes behind this byte, where these events came before them
 abbrev pub text_behind : ℕ → List Event → List Note → List ℕ
 text_behind last seen [] = []
 text_behind last seen (n ∷ notes) =
-    note_text last seen n ++ text_behind (last_behind last (note_text last seen n)) (seen_with seen n) notes
+    note_text last seen n ++ text_behind (last_byte_behind last (note_text last seen n)) (seen_with seen n) notes
 
 -- what is written before the end
 abbrev pub text_so_far : List Note → List ℕ
@@ -185,7 +185,7 @@ text_so_far notes = text_behind 10 [] notes
 
 -- the last byte of it; before the first byte a line begins, as behind a newline
 abbrev pub last_byte : List Note → ℕ
-last_byte notes = last_behind 10 (text_so_far notes)
+last_byte notes = last_byte_behind 10 (text_so_far notes)
 
 -- what is written of one note more
 abbrev pub added_text : List Note → Note → List ℕ
@@ -194,7 +194,7 @@ added_text notes n = note_text (last_byte notes) (events_in notes) n
 -- what is written of parts behind this byte
 abbrev pub parts_text : ℕ → List EndedPart → List ℕ
 parts_text last [] = []
-parts_text last (p ∷ parts) = part_text last p ++ parts_text (last_behind last (part_text last p)) parts
+parts_text last (p ∷ parts) = ended_part_text last p ++ parts_text (last_byte_behind last (ended_part_text last p)) parts
 
 -- what is written at the end: the open tests, by route and id
 abbrev pub text_at_end : List Note → List ℕ

@@ -6,6 +6,6 @@ use Rattle.v1_bridge.specs.declared.writer.V1Writer.{V1Writer}
 use Rattle.v1_bridge.specs.Writing.{events_in, last_byte}
 
 -- the writer was given these notes
-pub record HasWritten (writer : V1Writer) (notes : List Note) : Type 0 where
+pub record HasWrittenNotes (writer : V1Writer) (notes : List Note) : Type 0 where
   pub seen : HasSeen writer.fold (events_in notes)
   pub last : writer.last ≡ last_byte notes

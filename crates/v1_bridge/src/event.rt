@@ -13,7 +13,7 @@ use sub_number::{Bytes, NoMemory, Text};
 
 /// The name of the file of a test that ended so.
 pub(crate) fn file_name(alloc: Global, how: Status) -> Result<Text, NoMemory>
-    ensures { IfOk result (λ name. name ≡ spec.file_name how) }
+    ensures { IfOk result (λ name. name ≡ spec.outcome_file_name how) }
 {
     match how {
         Status::Success | Status::UxSuccess => Text::from_tested(alloc, b"message"),
@@ -69,7 +69,7 @@ pub(crate) fn event_with(
 }
 
 /// The tags of an event, where there are any.
-pub(crate) fn tags_told(tags: Tags) -> Option<Tags>
+pub(crate) fn tags_if_any(tags: Tags) -> Option<Tags>
     ensures { result ≡ spec.tags_told tags }
 {
     if tags.list().is_empty() {
@@ -134,7 +134,7 @@ pub(crate) fn add_output(
     bytes: &[u8],
     events: &mut Vec<Event>,
 ) -> Result<(), NoMemory>
-    ensures { OnOk result (events.new.items ≡ events.old.items ++ spec.output_of bytes.now) }
+    ensures { OnOk result (events.new.items ≡ events.old.items ++ spec.stdout_events_of bytes.now) }
 {
     if bytes.is_empty() {
         return Ok(());

@@ -4,6 +4,7 @@ ghost use Rattle.std.specs.Prelude.{◌≡◌, ℕ, ◌≤◌, ◌<◌, IfSome, 
 ghost use Rattle.std.specs.Char.{is_ascii_digit};
 ghost use Rattle.std.specs.List.{list_all};
 ghost use Rattle.std.specs.Option.{option_map};
+ghost use Rattle.sub_number.specs.Lines.{without_return, begins};
 ghost use Rattle.v1_bridge.specs.Lines as spec;
 ghost use Rattle.v1_bridge.specs.Kept.{line_meant, ended_meant, HasShortParts};
 ghost use Rattle.instants.specs.Dates.{meant};
@@ -35,7 +36,7 @@ pub(crate) enum Line<'a> {
 }
 
 /// The bytes behind so many, none where there are fewer.
-pub(crate) fn behind(bytes: &[u8], count: usize) -> &[u8]
+pub(crate) fn bytes_behind(bytes: &[u8], count: usize) -> &[u8]
     ensures rest { result.now ≡ drop count bytes.now }
     ensures within { length result.now ≤ length bytes.now }
 {
@@ -56,7 +57,7 @@ pub(crate) fn without_newline(bytes: &[u8]) -> &[u8]
 
 /// The bytes without a carriage return at their end.
 pub(crate) fn without_return(bytes: &[u8]) -> &[u8]
-    ensures line { result.now ≡ spec.without_return bytes.now }
+    ensures line { result.now ≡ without_return bytes.now }
     ensures within { length result.now ≤ length bytes.now }
 {
     if bytes.ends_with(b"\r") {
@@ -67,7 +68,7 @@ pub(crate) fn without_return(bytes: &[u8]) -> &[u8]
 }
 
 /// What the line says, without its newline and a carriage return before it.
-pub(crate) fn content(line: &[u8]) -> &[u8]
+pub(crate) fn line_content(line: &[u8]) -> &[u8]
     ensures content { result.now ≡ spec.content line.now }
     ensures within { length result.now ≤ length (spec.without_newline line.now) }
 {
@@ -78,7 +79,7 @@ pub(crate) fn content(line: &[u8]) -> &[u8]
 #[inline(always)]
 fn begins(line: &[u8], word: &[u8]) -> bool
     requires { 2 ≤ length word.now }
-    ensures { result ≡ spec.begins word.now line.now }
+    ensures { result ≡ begins word.now line.now }
 {
     line.len() >= 2 && line[0] == word[0] && line[1] == word[1] && line.starts_with(word)
 }
@@ -94,39 +95,39 @@ fn outcome_of(line: &[u8]) -> Option<Outcome<'_>>
     ensures { option_map ended_meant result ≡ spec.outcome_of line.now }
 {
     if begins(line, b"success: ") {
-        return ended_as(Status::Success, behind(line, 9));
+        return ended_as(Status::Success, bytes_behind(line, 9));
     }
     if begins(line, b"successful: ") {
-        return ended_as(Status::Success, behind(line, 12));
+        return ended_as(Status::Success, bytes_behind(line, 12));
     }
     if begins(line, b"failure: ") {
-        return ended_as(Status::Fail, behind(line, 9));
+        return ended_as(Status::Fail, bytes_behind(line, 9));
     }
     if begins(line, b"error: ") {
-        return ended_as(Status::Fail, behind(line, 7));
+        return ended_as(Status::Fail, bytes_behind(line, 7));
     }
     if begins(line, b"skip: ") {
-        return ended_as(Status::Skip, behind(line, 6));
+        return ended_as(Status::Skip, bytes_behind(line, 6));
     }
     if begins(line, b"xfail: ") {
-        return ended_as(Status::XFail, behind(line, 7));
+        return ended_as(Status::XFail, bytes_behind(line, 7));
     }
     if begins(line, b"uxsuccess: ") {
-        return ended_as(Status::UxSuccess, behind(line, 11));
+        return ended_as(Status::UxSuccess, bytes_behind(line, 11));
     }
     None
 }
 
 // What begins a test, and its id.
 fn test_of(line: &[u8]) -> Option<&[u8]>
-    ensures meant { option_map (λ id. id.now) result ≡ spec.test_of line.now }
+    ensures meant { option_map (λ id. id.now) result ≡ spec.test_begun line.now }
     ensures within { IfSome result (λ id. length id.now ≤ length line.now) }
 {
     if begins(line, b"test: ") {
-        return Some(behind(line, 6));
+        return Some(bytes_behind(line, 6));
     }
     if begins(line, b"testing: ") {
-        return Some(behind(line, 9));
+        return Some(bytes_behind(line, 9));
     }
     None
 }
@@ -158,7 +159,7 @@ fn unsigned(bytes: &[u8]) -> &[u8]
     ensures { result.now ≡ spec.unsigned bytes.now }
 {
     if bytes.starts_with(b"+") || bytes.starts_with(b"-") {
-        behind(bytes, 1)
+        bytes_behind(bytes, 1)
     } else {
         bytes
     }
@@ -172,7 +173,7 @@ fn are_digits(bytes: &[u8]) -> bool
 
 // Whether the bytes are 1 to 9 digits.
 fn is_count(bytes: &[u8]) -> bool
-    ensures { result ≡ spec.is_count bytes.now }
+    ensures { result ≡ spec.is_short_number bytes.now }
 {
     are_digits(bytes) && bytes.len() >= 1 && bytes.len() <= 9
 }
@@ -201,13 +202,13 @@ fn other_of(line: &[u8]) -> Line<'_>
     ensures within { HasShortParts result (length line.now) }
 {
     if begins(line, b"time: ") {
-        return time_with(instant_of(behind(line, 6)));
+        return time_with(instant_of(bytes_behind(line, 6)));
     }
     if begins(line, b"tags: ") {
-        return Line::Tags(behind(line, 6));
+        return Line::Tags(bytes_behind(line, 6));
     }
     if begins(line, b"progress: ") {
-        return progress_with(behind(line, 10));
+        return progress_with(bytes_behind(line, 10));
     }
     Line::Other
 }

@@ -9,7 +9,7 @@ use sub_number::{NoMemory, Text, TextFault};
 /// The bytes as a text, where they are one.
 pub(crate) fn text_of(alloc: Global, bytes: &[u8]) -> Result<Option<Text>, NoMemory>
     requires { length bytes.now < 2 ^ 30 }
-    ensures { IfOk result (λ text. text ≡ (if spec.is_text bytes.now then Some bytes.now else None)) }
+    ensures { IfOk result (λ text. text ≡ (if spec.is_utf8_text bytes.now then Some bytes.now else None)) }
 {
     match Text::new(alloc, bytes) {
         Ok(text) => Ok(Some(text)),

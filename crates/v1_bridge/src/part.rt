@@ -4,7 +4,7 @@ ghost use Rattle.std.specs.Prelude.{◌≡◌, ◌+◌, ◌*◌, ◌≤◌, ◌<
 ghost use Rattle.v1_bridge.specs.Events as spec;
 
 use crate::event::piece_event;
-use crate::line::behind;
+use crate::line::bytes_behind;
 use packet_codec::Event;
 use std::alloc::Global;
 use std::marker::Model;
@@ -75,7 +75,7 @@ fn piece_at(bytes: &[u8], number: usize) -> &[u8]
     requires { 65536 * number + 65536 ≤ length bytes.now }
     ensures { result.now ≡ spec.piece_at bytes.now number }
 {
-    &behind(bytes, PIECE * number)[..PIECE]
+    &bytes_behind(bytes, PIECE * number)[..PIECE]
 }
 
 // Appends the events of the full pieces that are held.
@@ -99,14 +99,14 @@ fn give_pieces(
 fn behind_pieces(bytes: &[u8]) -> &[u8]
     ensures { result.now ≡ spec.behind_pieces bytes.now }
 {
-    behind(bytes, PIECE * (bytes.len() / PIECE))
+    bytes_behind(bytes, PIECE * (bytes.len() / PIECE))
 }
 
 impl Part {
     // Appends the events of the full pieces that are held, which are held no longer.
     fn give(&mut self, alloc: Global, id: &Text, events: &mut Vec<Event>) -> Result<(), NoMemory>
         ensures given { OnOk result (events.new.items ≡ events.old.items ++ map (spec.piece_event id.now self.old) (spec.full_pieces self.old.held)) }
-        ensures held { OnOk result (self.new ≡ spec.holding self.old (spec.behind_pieces self.old.held)) }
+        ensures held { OnOk result (self.new ≡ spec.part_holding self.old (spec.behind_pieces self.old.held)) }
     {
         if self.held.bytes().len() < PIECE {
             return Ok(());
@@ -131,7 +131,7 @@ impl Part {
         events: &mut Vec<Event>,
     ) -> Result<(), NoMemory>
         ensures given { OnOk result (events.new.items ≡ events.old.items ++ spec.pieces_given id.now self.old (bytes.now ++ more.now)) }
-        ensures held { OnOk result (self.new ≡ spec.part_with self.old (bytes.now ++ more.now)) }
+        ensures held { OnOk result (self.new ≡ spec.part_with_bytes self.old (bytes.now ++ more.now)) }
     {
         self.held.append(bytes)?;
         self.held.append(more)?;

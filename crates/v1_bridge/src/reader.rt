@@ -2,20 +2,20 @@
 
 ghost use Rattle.std.specs.Prelude.{List, ◌≡◌, ◌++◌, ◌∷◌, [], ◌<◌, ◌≤◌, ◌^◌, length, All, IsTrue, ◌↔◌, true, false, IfOk, OnOk, None, Some};
 ghost use Rattle.v1_bridge.specs.Lines.{line_of as line_by, content as content_of, without_newline as line_without};
-ghost use Rattle.v1_bridge.specs.Events.{longest_line, line_event, begun_event as begun_by, completing_event, left_of as left_by, rest_events};
+ghost use Rattle.v1_bridge.specs.Events.{longest_v1_line, line_event, begun_event as begun_by, completing_event, left_of as left_by, rest_events};
 ghost use Rattle.v1_bridge.specs.Stages as stages;
 ghost use Rattle.v1_bridge.specs.Reading as spec;
 ghost use Rattle.v1_bridge.specs.Kept.{state_of, with_open, plain_test, detailed_test, HasRead, HoldsLittle};
 ghost use Rattle.packet_codec.specs.Canonical.{Fits};
-ghost use Rattle.v1_bridge.specs.declared.stage.OpenTest.{OpenTest as AnOpenTest};
+ghost use Rattle.v1_bridge.specs.declared.details_stage.OpenTest.{OpenTest as AnOpenTest};
 
+use crate::details_stage::{Details, OpenTest, Stage};
 use crate::event::{
-    add_line, add_output, begun_event, event_with, give_rest, left_of, lines_part, tags_told,
+    add_line, add_output, begun_event, event_with, give_rest, left_of, lines_part, tags_if_any,
 };
-use crate::line::{Line, behind, content, line_of, without_newline};
+use crate::line::{Line, bytes_behind, line_content, line_of, without_newline};
 use crate::name::name_of;
 use crate::part::Part;
-use crate::stage::{Details, OpenTest, Stage};
 use crate::tags::retagged;
 use outcome_fold::copies_of;
 use packet_codec::{Event, Stamp, Status, Tags};
@@ -65,7 +65,7 @@ impl V1Reader {
     ) -> Result<(), NoMemory>
         ensures { OnOk result (events.new.items ≡ events.old.items ++ completing_event self.now.last id tags how part ∷ []) }
     {
-        events.push(event_with(self.last, id, tags_told(tags), how, part))?;
+        events.push(event_with(self.last, id, tags_if_any(tags), how, part))?;
         Ok(())
     }
 
@@ -134,7 +134,7 @@ impl V1Reader {
         events: &mut Vec<Event>,
     ) -> Result<(), NoMemory>
         requires none { self.old.open_test ≡ None }
-        requires short { length (line_without line.now) ≤ longest_line }
+        requires short { length (line_without line.now) ≤ longest_v1_line }
         ensures given { OnOk result (events.new.items ≡ events.old.items ++ (spec.detail_line (state_of self.old) (record { id = id; tags = tags; details = Some details }) details line.now).given) }
         ensures state { OnOk result (state_of self.new ≡ (spec.detail_line (state_of self.old) (record { id = id; tags = tags; details = Some details }) details line.now).state) }
     {
@@ -249,9 +249,9 @@ impl V1Reader {
         events: &mut Vec<Event>,
     ) -> Result<(), NoMemory>
         requires none { self.old.open_test ≡ None }
-        requires short { length line.now ≤ longest_line }
-        ensures given { OnOk result (events.new.items ≡ events.old.items ++ (spec.within (with_open self.old (plain_test id tags)) (plain_test id tags) line.now (line_by line.now)).given) }
-        ensures state { OnOk result (state_of self.new ≡ (spec.within (with_open self.old (plain_test id tags)) (plain_test id tags) line.now (line_by line.now)).state) }
+        requires short { length line.now ≤ longest_v1_line }
+        ensures given { OnOk result (events.new.items ≡ events.old.items ++ (spec.step_inside (with_open self.old (plain_test id tags)) (plain_test id tags) line.now (line_by line.now)).given) }
+        ensures state { OnOk result (state_of self.new ≡ (spec.step_inside (with_open self.old (plain_test id tags)) (plain_test id tags) line.now (line_by line.now)).state) }
     {
         match line_of(line) {
             Line::Outcome(outcome) => {
@@ -280,9 +280,9 @@ impl V1Reader {
     // A line where no test is open, by its content.
     fn outside(&mut self, line: &[u8], events: &mut Vec<Event>) -> Result<(), NoMemory>
         requires none { self.old.open_test ≡ None }
-        requires short { length line.now ≤ longest_line }
-        ensures given { OnOk result (events.new.items ≡ events.old.items ++ (spec.outside (state_of self.old) line.now (line_by line.now)).given) }
-        ensures state { OnOk result (state_of self.new ≡ (spec.outside (state_of self.old) line.now (line_by line.now)).state) }
+        requires short { length line.now ≤ longest_v1_line }
+        ensures given { OnOk result (events.new.items ≡ events.old.items ++ (spec.step_outside (state_of self.old) line.now (line_by line.now)).given) }
+        ensures state { OnOk result (state_of self.new ≡ (spec.step_outside (state_of self.old) line.now (line_by line.now)).state) }
     {
         match line_of(line) {
             Line::Test(id) => self.begin_test(line, id, events),
@@ -307,14 +307,14 @@ impl V1Reader {
         events: &mut Vec<Event>,
     ) -> Result<(), NoMemory>
         requires none { self.old.open_test ≡ None }
-        requires short { length (line_without line.now) ≤ longest_line }
+        requires short { length (line_without line.now) ≤ longest_v1_line }
         ensures given { OnOk result (events.new.items ≡ events.old.items ++ (spec.line_step (with_open self.old test) (Some test) line.now).given) }
         ensures state { OnOk result (state_of self.new ≡ (spec.line_step (with_open self.old test) (Some test) line.now).state) }
     {
         let OpenTest { id, tags, details } = test;
         match details {
             None => {
-                self.within(id, tags, content(line), events)?;
+                self.within(id, tags, line_content(line), events)?;
                 Ok(())
             }
             Some(details) => self.detail_line(id, tags, details, line, events),
@@ -336,7 +336,7 @@ impl V1Reader {
 
     // A line with its newline, where it has one.
     fn take_line(&mut self, line: &[u8], events: &mut Vec<Event>) -> Result<(), NoMemory>
-        requires short { length (line_without line.now) ≤ longest_line }
+        requires short { length (line_without line.now) ≤ longest_v1_line }
         ensures given { OnOk result (events.new.items ≡ events.old.items ++ (spec.line_step (state_of self.old) (state_of self.old).open_test line.now).given) }
         ensures state { OnOk result (state_of self.new ≡ (spec.line_step (state_of self.old) (state_of self.old).open_test line.now).state) }
     {
@@ -345,15 +345,15 @@ impl V1Reader {
         }
         match self.open_test.take() {
             Some(test) => self.line_within(test, line, events),
-            None => self.outside(content(line), events),
+            None => self.outside(line_content(line), events),
         }
     }
 
     /// Takes the next line, with its newline, which only the last line of a stream may lack, and appends what it decides. A
     /// carriage return at its end is no part of it, but within a chunk.
     pub fn line_into(&mut self, line: &[u8], events: &mut Vec<Event>) -> Result<(), NoMemory>
-        requires short { length (line_without line.now) ≤ longest_line }
-        ensures events { (inputs : List spec.Input) → HasRead self.old inputs → OnOk result (events.new.items ≡ events.old.items ++ spec.given_behind inputs (spec.line line.now)) }
+        requires short { length (line_without line.now) ≤ longest_v1_line }
+        ensures events { (inputs : List spec.Input) → HasRead self.old inputs → OnOk result (events.new.items ≡ events.old.items ++ spec.events_given_behind inputs (spec.line line.now)) }
         ensures read { (inputs : List spec.Input) → HasRead self.old inputs → OnOk result (HasRead self.new (inputs ++ spec.line line.now ∷ [])) }
         ensures fits { HoldsLittle self.old → All Fits events.old.items → OnOk result (All Fits events.new.items) }
         ensures little { HoldsLittle self.old → OnOk result (HoldsLittle self.new) }
@@ -364,7 +364,7 @@ impl V1Reader {
 
     /// The same, and gives the events.
     pub fn line(&mut self, line: &[u8]) -> Result<Vec<Event>, NoMemory>
-        requires short { length (line_without line.now) ≤ longest_line }
+        requires short { length (line_without line.now) ≤ longest_v1_line }
         ensures so_far { (inputs : List spec.Input) → HasRead self.old inputs → IfOk result (λ events. spec.events_so_far (inputs ++ spec.line line.now ∷ []) ≡ spec.events_so_far inputs ++ events.items) }
         ensures read { (inputs : List spec.Input) → HasRead self.old inputs → OnOk result (HasRead self.new (inputs ++ spec.line line.now ∷ [])) }
         ensures fits { HoldsLittle self.old → IfOk result (λ events. All Fits events.items) }
@@ -421,8 +421,8 @@ impl V1Reader {
         last: bool,
         events: &mut Vec<Event>,
     ) -> Result<(), NoMemory>
-        requires short { length (line_without piece.now) ≤ longest_line }
-        ensures events { (inputs : List spec.Input) → HasRead self.old inputs → OnOk result (events.new.items ≡ events.old.items ++ spec.given_behind inputs (spec.piece piece.now last)) }
+        requires short { length (line_without piece.now) ≤ longest_v1_line }
+        ensures events { (inputs : List spec.Input) → HasRead self.old inputs → OnOk result (events.new.items ≡ events.old.items ++ spec.events_given_behind inputs (spec.piece piece.now last)) }
         ensures read { (inputs : List spec.Input) → HasRead self.old inputs → OnOk result (HasRead self.new (inputs ++ spec.piece piece.now last ∷ [])) }
         ensures fits { HoldsLittle self.old → All Fits events.old.items → OnOk result (All Fits events.new.items) }
         ensures little { HoldsLittle self.old → OnOk result (HoldsLittle self.new) }
@@ -433,7 +433,7 @@ impl V1Reader {
 
     /// The same, and gives the events.
     pub fn long(&mut self, piece: &[u8], last: bool) -> Result<Vec<Event>, NoMemory>
-        requires short { length (line_without piece.now) ≤ longest_line }
+        requires short { length (line_without piece.now) ≤ longest_v1_line }
         ensures so_far { (inputs : List spec.Input) → HasRead self.old inputs → IfOk result (λ events. spec.events_so_far (inputs ++ spec.piece piece.now last ∷ []) ≡ spec.events_so_far inputs ++ events.items) }
         ensures read { (inputs : List spec.Input) → HasRead self.old inputs → OnOk result (HasRead self.new (inputs ++ spec.piece piece.now last ∷ [])) }
         ensures fits { HoldsLittle self.old → IfOk result (λ events. All Fits events.items) }
@@ -464,7 +464,7 @@ impl V1Reader {
 
 /// Whether the bytes are no more than a line may have, or a piece of one that is too long: 65,536, and a newline.
 pub fn is_short(bytes: &[u8]) -> bool
-    ensures { IsTrue result ↔ length (line_without bytes.now) ≤ longest_line }
+    ensures { IsTrue result ↔ length (line_without bytes.now) ≤ longest_v1_line }
 {
     without_newline(bytes).len() <= LONGEST_LINE
 }
@@ -473,7 +473,7 @@ pub fn is_short(bytes: &[u8]) -> bool
 fn is_id_and(more: &[u8], id: &[u8], rest: &[u8]) -> bool
     ensures { result ≡ spec.is_id_and more.now id.now rest.now }
 {
-    rest.starts_with(id) && behind(rest, id.len()) == more
+    rest.starts_with(id) && bytes_behind(rest, id.len()) == more
 }
 
 // What is held of the details as the file of the completing event.

@@ -3,9 +3,10 @@
 ghost use Rattle.std.specs.Prelude.{◌≡◌, ◌∷◌, [], ◌<◌, ◌≤◌, ◌^◌, length, nat_le, IfOk, OnOk, Some, None, if◌then◌else◌};
 ghost use Rattle.std.specs.List.{position_or_len, filter, sum_by};
 ghost use Rattle.outcome_fold.specs.Order.{in_byte_order};
+ghost use Rattle.sub_number.specs.Lines.{has_bytes};
 ghost use Rattle.v1_bridge.specs.TagWords as spec;
 
-use crate::line::behind;
+use crate::line::bytes_behind;
 use crate::name::name_of;
 use outcome_fold::TextSet;
 use packet_codec::Tags;
@@ -16,14 +17,14 @@ use sub_number::{NoMemory, Text};
 const MOST_TAG_BYTES: usize = 65_536;
 
 fn is_gap(byte: u8) -> bool
-    ensures { result ≡ spec.is_gap byte }
+    ensures { result ≡ spec.is_space_or_tab byte }
 {
     byte == b' ' || byte == b'\t'
 }
 
 // How many bytes stand in front of the first gap.
 fn word_size(bytes: &[u8]) -> usize
-    ensures count { result ≡ position_or_len spec.is_gap bytes.now }
+    ensures count { result ≡ position_or_len spec.is_space_or_tab bytes.now }
     ensures within { result ≤ length bytes.now }
 {
     let mut count = 0;
@@ -46,7 +47,7 @@ fn tag_in(word: &[u8]) -> &[u8]
     ensures within { length result.now ≤ length word.now }
 {
     if takes_away(word) {
-        behind(word, 1)
+        bytes_behind(word, 1)
     } else {
         word
     }
@@ -68,7 +69,7 @@ fn take_tag(set: &mut TextSet, word: &[u8], tag: Text) -> Result<(), NoMemory>
 // The set takes a word, where its tag is a text that is not empty, and answers whether it is. Nothing is no word.
 fn take_word(alloc: Global, set: &mut TextSet, word: &[u8]) -> Result<bool, NoMemory>
     requires { length word.now < 2 ^ 30 }
-    ensures { IfOk result (λ told. (if told then Some set.new else None) ≡ spec.tags_after set.old (filter spec.has_bytes (word.now ∷ []))) }
+    ensures { IfOk result (λ told. (if told then Some set.new else None) ≡ spec.tags_after_words set.old (filter has_bytes (word.now ∷ []))) }
 {
     if word.len() == 0 {
         return Ok(true);
@@ -85,7 +86,7 @@ fn take_word(alloc: Global, set: &mut TextSet, word: &[u8]) -> Result<bool, NoMe
 // The set takes the words in turn, where each tells a text that is not empty, and answers whether they do.
 fn take_words(alloc: Global, set: &mut TextSet, words: &[u8]) -> Result<bool, NoMemory>
     requires { length words.now < 2 ^ 30 }
-    ensures { IfOk result (λ told. (if told then Some set.new else None) ≡ spec.tags_after set.old (spec.words_of words.now)) }
+    ensures { IfOk result (λ told. (if told then Some set.new else None) ≡ spec.tags_after_words set.old (spec.spaced_words words.now)) }
 {
     let mut rest = words;
     while word_size(rest) < rest.len() {
@@ -93,7 +94,7 @@ fn take_words(alloc: Global, set: &mut TextSet, words: &[u8]) -> Result<bool, No
         if !take_word(alloc, set, &rest[..at])? {
             return Ok(false);
         }
-        rest = behind(rest, at + 1);
+        rest = bytes_behind(rest, at + 1);
     }
     take_word(alloc, set, rest)
 }

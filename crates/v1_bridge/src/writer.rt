@@ -7,9 +7,9 @@ ghost use Rattle.stream_reader.specs.declared.note.Note.{Note as ANote};
 ghost use Rattle.stream_reader.specs.declared.note.Note.TheVariants as note;
 ghost use Rattle.outcome_fold.specs.Folded.{HasSeen};
 ghost use Rattle.v1_bridge.specs.Writing as spec;
-ghost use Rattle.v1_bridge.specs.Written.{HasWritten};
+ghost use Rattle.v1_bridge.specs.Written.{HasWrittenNotes};
 
-use crate::writing::{last_of, newline_behind, put_part};
+use crate::part_lines::{last_byte_or, newline_behind, put_part};
 use outcome_fold::{Ended, EndedPart, Fold};
 use packet_codec::{Event, Packet};
 use std::alloc::Global;
@@ -46,7 +46,7 @@ fn is_written(ended: Ended) -> bool
 impl V1Writer {
     /// A writer that was given nothing. It takes no memory yet.
     pub fn new(alloc: Global) -> Self
-        ensures { HasWritten result [] }
+        ensures { HasWrittenNotes result [] }
     {
         V1Writer {
             fold: Fold::new(alloc),
@@ -57,18 +57,18 @@ impl V1Writer {
     // Appends the bytes.
     fn put_bytes(&mut self, bytes: &[u8], out: &mut Vec<u8>) -> Result<(), NoMemory>
         ensures text { OnOk result (out.new.items ≡ out.old.items ++ bytes.now) }
-        ensures last { OnOk result (self.new.last ≡ spec.last_behind self.old.last bytes.now) }
+        ensures last { OnOk result (self.new.last ≡ spec.last_byte_behind self.old.last bytes.now) }
         ensures fold { self.new.fold ≡ self.old.fold }
     {
         out.extend_from_slice(bytes)?;
-        self.last = last_of(self.last, bytes);
+        self.last = last_byte_or(self.last, bytes);
         Ok(())
     }
 
     // Appends what is written of the part.
     fn put_ended(&mut self, part: EndedPart, out: &mut Vec<u8>) -> Result<(), NoMemory>
-        ensures text { OnOk result (out.new.items ≡ out.old.items ++ spec.part_text self.old.last part) }
-        ensures last { OnOk result (self.new.last ≡ spec.last_behind self.old.last (spec.part_text self.old.last part)) }
+        ensures text { OnOk result (out.new.items ≡ out.old.items ++ spec.ended_part_text self.old.last part) }
+        ensures last { OnOk result (self.new.last ≡ spec.last_byte_behind self.old.last (spec.ended_part_text self.old.last part)) }
         ensures fold { self.new.fold ≡ self.old.fold }
     {
         self.last = put_behind(self.last, part, out)?;
@@ -78,7 +78,7 @@ impl V1Writer {
     // Appends what is written of an event that speaks of no test.
     fn put_file(&mut self, event: &Event, out: &mut Vec<u8>) -> Result<(), NoMemory>
         ensures text { OnOk result (out.new.items ≡ out.old.items ++ spec.file_bytes event.now.file) }
-        ensures last { OnOk result (self.new.last ≡ spec.last_behind self.old.last (spec.file_bytes event.now.file)) }
+        ensures last { OnOk result (self.new.last ≡ spec.last_byte_behind self.old.last (spec.file_bytes event.now.file)) }
         ensures fold { self.new.fold ≡ self.old.fold }
     {
         match &event.file {
@@ -90,7 +90,7 @@ impl V1Writer {
     // Appends what is written of the part that an event completes, where it completes one.
     fn put_completed(&mut self, part: Option<EndedPart>, out: &mut Vec<u8>) -> Result<(), NoMemory>
         ensures text { OnOk result (out.new.items ≡ out.old.items ++ spec.completed_text self.old.last part) }
-        ensures last { OnOk result (self.new.last ≡ spec.last_behind self.old.last (spec.completed_text self.old.last part)) }
+        ensures last { OnOk result (self.new.last ≡ spec.last_byte_behind self.old.last (spec.completed_text self.old.last part)) }
         ensures fold { self.new.fold ≡ self.old.fold }
     {
         match part {
@@ -102,8 +102,8 @@ impl V1Writer {
     /// Takes the next event, and appends what is written of it: the part of its test that it completes, or its file where it
     /// speaks of no test.
     pub fn add(&mut self, event: &Event, out: &mut Vec<u8>) -> Result<(), NoMemory>
-        ensures text { (notes : List ANote) → HasWritten self.old notes → OnOk result (out.new.items ≡ out.old.items ++ spec.added_text notes (note.Event event.now)) }
-        ensures written { (notes : List ANote) → HasWritten self.old notes → OnOk result (HasWritten self.new (notes ++ note.Event event.now ∷ [])) }
+        ensures text { (notes : List ANote) → HasWrittenNotes self.old notes → OnOk result (out.new.items ≡ out.old.items ++ spec.added_text notes (note.Event event.now)) }
+        ensures written { (notes : List ANote) → HasWrittenNotes self.old notes → OnOk result (HasWrittenNotes self.new (notes ++ note.Event event.now ∷ [])) }
     {
         let part = self.fold.add_part(event)?;
         match &event.id {
@@ -121,7 +121,7 @@ impl V1Writer {
     // Appends what is written of the packet's event where it completes no part: its file, where it speaks of no test.
     fn put_outside(&mut self, packet: &Packet<'_>, out: &mut Vec<u8>) -> Result<(), NoMemory>
         ensures text { (event : AnEvent) → SpellsEvent packet.now event → OnOk result (out.new.items ≡ out.old.items ++ spec.outside_bytes event.id event.file) }
-        ensures last { (event : AnEvent) → SpellsEvent packet.now event → OnOk result (self.new.last ≡ spec.last_behind self.old.last (spec.outside_bytes event.id event.file)) }
+        ensures last { (event : AnEvent) → SpellsEvent packet.now event → OnOk result (self.new.last ≡ spec.last_byte_behind self.old.last (spec.outside_bytes event.id event.file)) }
         ensures fold { self.new.fold ≡ self.old.fold }
     {
         let Some(bytes) = packet.file_bytes() else {
@@ -138,8 +138,8 @@ impl V1Writer {
 
     /// The same of the event that the packet spells, which is not made.
     pub fn hear(&mut self, packet: &Packet<'_>, out: &mut Vec<u8>) -> Result<(), NoMemory>
-        ensures text { (event : AnEvent) → SpellsEvent packet.now event → (notes : List ANote) → HasWritten self.old notes → OnOk result (out.new.items ≡ out.old.items ++ spec.added_text notes (note.Event event)) }
-        ensures written { (event : AnEvent) → SpellsEvent packet.now event → (notes : List ANote) → HasWritten self.old notes → OnOk result (HasWritten self.new (notes ++ note.Event event ∷ [])) }
+        ensures text { (event : AnEvent) → SpellsEvent packet.now event → (notes : List ANote) → HasWrittenNotes self.old notes → OnOk result (out.new.items ≡ out.old.items ++ spec.added_text notes (note.Event event)) }
+        ensures written { (event : AnEvent) → SpellsEvent packet.now event → (notes : List ANote) → HasWrittenNotes self.old notes → OnOk result (HasWrittenNotes self.new (notes ++ note.Event event ∷ [])) }
     {
         match self.fold.hear_part(packet)? {
             Some(part) => {
@@ -156,7 +156,7 @@ impl V1Writer {
     /// Takes the next foreign bytes, and appends them.
     pub fn foreign(&mut self, bytes: &[u8], out: &mut Vec<u8>) -> Result<(), NoMemory>
         ensures text { OnOk result (out.new.items ≡ out.old.items ++ bytes.now) }
-        ensures written { (notes : List ANote) → HasWritten self.old notes → OnOk result (HasWritten self.new (notes ++ note.Foreign bytes.now ∷ [])) }
+        ensures written { (notes : List ANote) → HasWrittenNotes self.old notes → OnOk result (HasWrittenNotes self.new (notes ++ note.Foreign bytes.now ∷ [])) }
     {
         self.put_bytes(bytes, out)?;
         Ok(())
@@ -164,7 +164,7 @@ impl V1Writer {
 
     /// Ends the notes, and appends the tests that are open, by route, no route first, and then by id.
     pub fn close(self, out: &mut Vec<u8>) -> Result<(), NoMemory>
-        ensures text { (notes : List ANote) → HasWritten self notes → OnOk result (out.new.items ≡ out.old.items ++ spec.text_at_end notes) }
+        ensures text { (notes : List ANote) → HasWrittenNotes self notes → OnOk result (out.new.items ≡ out.old.items ++ spec.text_at_end notes) }
     {
         let V1Writer { fold, last } = self;
         let parts = fold.close_parts()?;
@@ -194,8 +194,8 @@ fn put_parts(last: u8, parts: Vec<EndedPart>, out: &mut Vec<u8>) -> Result<(), N
 
 // Appends what is written of the part behind this byte, and gives the last one then.
 fn put_behind(last: u8, part: EndedPart, out: &mut Vec<u8>) -> Result<u8, NoMemory>
-    ensures text { OnOk result (out.new.items ≡ out.old.items ++ spec.part_text last part) }
-    ensures last { IfOk result (λ now. now ≡ spec.last_behind last (spec.part_text last part)) }
+    ensures text { OnOk result (out.new.items ≡ out.old.items ++ spec.ended_part_text last part) }
+    ensures last { IfOk result (λ now. now ≡ spec.last_byte_behind last (spec.ended_part_text last part)) }
 {
     if !is_written(part.ended) {
         return Ok(last);

@@ -22,7 +22,7 @@ use Rattle.stream_reader.proofs.FrontLemmas.{are_before, are_behind, are_both}
 use Rattle.worker_lane.specs.Inside.{inside_event, inside_under}
 use Rattle.worker_lane.specs.Recorded.{pieces_of, stdout_under, recorded_event, recorded_note}
 use Rattle.worker_lane.specs.Waiting.{IsShortNote}
-use Rattle.worker_lane.specs.Scribing.{Scribing, holding, finished, TakesNote, TakesInside, IsAsBefore, GivesEvent, GivesPacket, HasNone}
+use Rattle.worker_lane.specs.Scribing.{Scribing, scribe_holding, finished, TakesNote, TakesInside, IsAsBefore, GivesEvent, GivesPacket, HasNone}
 use Rattle.worker_lane.specs.Endings.{ending_of, ending_events, IsPacketOf}
 use Rattle.edge_io.specs.Children.{Output}
 use Rattle.worker_lane.specs.Courses.{GivesHeard, HasNoneHeard, GivesLost, HasNoneLost}
@@ -30,9 +30,9 @@ use Rattle.worker_lane.specs.Lost.{lost_ids, lost_under, lost_events, IsLostPack
 use Rattle.worker_lane.specs.Rest.{AppendsNext, Coursing, lots_to_give, lots_left, events_left, lots, IsEventOf, IsSoundScribe, IsAtStage, IsMarked}
 use Rattle.worker_lane.specs.declared.lot.Ending.{Ending}
 use Rattle.worker_lane.specs.declared.lot.Lot.TheVariants.{Packet, End}
-use Rattle.worker_lane.specs.declared.stage.Stage.{Stage}
-use Rattle.worker_lane.specs.declared.stage.Stage.TheVariants.{Reading, Closing}
-use Rattle.worker_lane.proofs.NoteLemmas.{HavePackets, note_is_short, each_way, event_has_packets, foreign_has_packet}
+use Rattle.worker_lane.specs.declared.lane_stage.Stage.{Stage}
+use Rattle.worker_lane.specs.declared.lane_stage.Stage.TheVariants.{Reading, Closing}
+use Rattle.worker_lane.proofs.NoteLemmas.{AreWritable, note_is_short, each_way, event_has_packets, foreign_has_packet}
 use Rattle.worker_lane.proofs.RecordingLemmas.{as_before_lane, as_before_ended, given_lane, given_ended}
 use Rattle.worker_lane.proofs.LostLemmas.{in_turn, none_recorded, RecordsEach}
 use Rattle.worker_lane.proofs.InsideEventLemmas.{inside_fits, inside_is_event}
@@ -43,7 +43,7 @@ use Rattle.worker_lane.proofs.RestLemmas.{given_left, fed_left, ended_left, none
 abbrev IsUnder : ℕ → Event → Type 0
 IsUnder lane event = (inner : Event) × (event ≡ under lane inner)
 
-are_events_of : (lane : ℕ) (events : List Event) → HavePackets events → All (IsUnder lane) events → All (IsEventOf lane) events
+are_events_of : (lane : ℕ) (events : List Event) → AreWritable events → All (IsUnder lane) events → All (IsEventOf lane) events
 are_events_of lane [] h u = All-nil (IsEventOf lane)
 are_events_of lane (event ∷ events) h u =
     let first = All-head (IsUnder lane) event events u in
@@ -114,7 +114,7 @@ sound_given before after event g s =
 packet_of : (lane : ℕ) (event : Event) (packet : List ℕ) → IsEventOf lane event → packet ≡ canonical event → IsPacketOf lane packet
 packet_of lane event packet e made = record { event = e.inner; packet_is = made ∙ ap canonical e.event_is; is_event = rw (e.event_is) at e.is_event; fits = rw (e.event_is) at e.fits }
 
-pub sound_fed : (before after : Scribing) (piece : List ℕ) → AreBytes piece → length before.held.bytes ≤ most_held → length piece ≤ 65536 → after ≡ holding before (before.held.bytes ++ piece) → IsSoundScribe before → IsSoundScribe after
+pub sound_fed : (before after : Scribing) (piece : List ℕ) → AreBytes piece → length before.held.bytes ≤ most_held → length piece ≤ 65536 → after ≡ scribe_holding before (before.held.bytes ++ piece) → IsSoundScribe before → IsSoundScribe after
 sound_fed before after piece are few short is s = rw is (record {
   lane = s.lane;
   are_bytes = are_both before.held.bytes piece s.are_bytes are;
@@ -189,10 +189,10 @@ given_under : (before after : Scribing) (packet : List ℕ) → IsSoundScribe be
 given_under before after packet s g = rw (given_lane before after g.event g.given) at (packet_of after.lane g.event packet (sound_given before after g.event g.given s).first g.new_is)
 
 -- what the ids are once the packet was heard
-abbrev pub Hears : (ids : List (List ℕ)) → (packet : List ℕ) → (now : List (List ℕ)) → Type 0
-Hears ids packet now = (e : Event) → SpellsEvent packet e → now ≡ lost_ids ids (e ∷ [])
+abbrev pub HearsPacket : (ids : List (List ℕ)) → (packet : List ℕ) → (now : List (List ℕ)) → Type 0
+HearsPacket ids packet now = (e : Event) → SpellsEvent packet e → now ≡ lost_ids ids (e ∷ [])
 
-pub gives_heard : (before after : Scribing) (ids now : List (List ℕ)) (stage : Stage) (failed : Bool) (packet : List ℕ) → GivesPacket before [] after packet → Hears ids packet now → IsSoundScribe before → IsAtStage stage before.held.ended failed
+pub gives_heard : (before after : Scribing) (ids now : List (List ℕ)) (stage : Stage) (failed : Bool) (packet : List ℕ) → GivesPacket before [] after packet → HearsPacket ids packet now → IsSoundScribe before → IsAtStage stage before.held.ended failed
     → GivesHeard (record { scribe = before; ids = ids; stage = stage; failed = failed }) packet (record { scribe = after; ids = now; stage = stage; failed = failed })
 gives_heard before after ids now stage failed packet g hears s stands =
     let heard : now ≡ lost_ids ids (g.event ∷ []) = hears g.event (given_spelled before after packet s g) in
@@ -224,7 +224,7 @@ pub appended_spelled : (before after : Scribing) (old new packet : List ℕ) →
 appended_spelled before after old new packet s g made = given_spelled before after packet s (record { event = g.event; given = g.given; new_is = made })
 
 -- a packet was appended, while the child is read
-pub into_appends : (before after : Scribing) (ids now : List (List ℕ)) (stage : Stage) (failed : Bool) (old new packet : List ℕ) → stage ≡ Reading → IsSoundScribe before → before.held.ended ≡ false → IsAtStage stage before.held.ended failed → (g : GivesPacket before old after new) → packet ≡ canonical g.event → Hears ids packet now
+pub into_appends : (before after : Scribing) (ids now : List (List ℕ)) (stage : Stage) (failed : Bool) (old new packet : List ℕ) → stage ≡ Reading → IsSoundScribe before → before.held.ended ≡ false → IsAtStage stage before.held.ended failed → (g : GivesPacket before old after new) → packet ≡ canonical g.event → HearsPacket ids packet now
     → AppendsNext (record { scribe = before; ids = ids; stage = stage; failed = failed }) old (record { scribe = after; ids = now; stage = stage; failed = failed }) new
 into_appends before after ids now stage failed old new packet is s going_on stands g made hears =
     let alone : GivesPacket before [] after packet = record { event = g.event; given = g.given; new_is = made } in
@@ -236,7 +236,7 @@ into_appends before after ids now stage failed old new packet is s going_on stan
       left = heard.reading is;
     }
 
-pub feed_left : (before after : Scribing) (piece : List ℕ) (ids : List (List ℕ)) (stage : Stage) (failed : Bool) → stage ≡ Reading → before.held.ended ≡ false → after ≡ holding before (before.held.bytes ++ piece)
+pub feed_left : (before after : Scribing) (piece : List ℕ) (ids : List (List ℕ)) (stage : Stage) (failed : Bool) → stage ≡ Reading → before.held.ended ≡ false → after ≡ scribe_holding before (before.held.bytes ++ piece)
     → (more : List ℕ) (finish : Finish) → lots (record { scribe = before; ids = ids; stage = stage; failed = failed }) (record { bytes = piece ++ more; finish = finish }) ≡ lots (record { scribe = after; ids = ids; stage = stage; failed = failed }) (record { bytes = more; finish = finish })
 feed_left before after piece ids stage failed reading going_on is = rw reading (λ more finish.
     ap (λ (events : List Event). lots_to_give before.lane ids events (ending_of finish)) (fed_left before piece more going_on) ∙ ap (λ (s : Scribing). lots_to_give s.lane ids (events_left s more) (ending_of finish)) (sym is))

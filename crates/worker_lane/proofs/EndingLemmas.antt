@@ -13,7 +13,7 @@ use Rattle.packet_codec.proofs.WritingLemmas.{length_canonical_fields}
 use Rattle.packet_codec.proofs.LaneLemmas.{is_event_under}
 use Rattle.worker_lane.specs.declared.lot.Ending.TheVariants.{Exit}
 use Rattle.worker_lane.specs.Endings.{returncode_text, returncode_event, returncode_under, ending_events, IsPacketOf}
-use Rattle.worker_lane.proofs.EventLemmas.{IsPlain, plain_text, packet_size_most, length_counted, length_decimal}
+use Rattle.worker_lane.proofs.EventLemmas.{IsPlainByte, plain_text, packet_size_most, length_counted, length_decimal}
 
 -- ---- plain texts
 
@@ -25,13 +25,13 @@ pub both : (a b : Bool) → (a && b) ≡ true → (a ≡ true) × (b ≡ true)
 both true b h = (refl, h)
 both false b h = absurd (grind (arith, h))
 
-pub plain_by_test : (bytes : List ℕ) → are_plain bytes ≡ true → All IsPlain bytes
+pub plain_by_test : (bytes : List ℕ) → are_plain bytes ≡ true → All IsPlainByte bytes
 unfolding are_plain
-plain_by_test [] h = All-nil IsPlain
+plain_by_test [] h = All-nil IsPlainByte
 plain_by_test (byte ∷ bytes) h =
     let first = both (nat_lt 0 byte) (nat_lt byte 128 && are_plain bytes) h in
     let second = both (nat_lt byte 128) (are_plain bytes) first.1 in
-    All-cons IsPlain byte bytes (record { some = grind (arith, nat_tests, first.0); ascii = grind (arith, nat_tests, second.0) }) (plain_by_test bytes second.1)
+    All-cons IsPlainByte byte bytes (record { some = grind (arith, nat_tests, first.0); ascii = grind (arith, nat_tests, second.0) }) (plain_by_test bytes second.1)
 
 id_is_text : IsShortText (codes "process-returncode")
 unfolding are_plain

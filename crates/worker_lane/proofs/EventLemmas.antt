@@ -163,21 +163,21 @@ canonical_bytes p e are s = are_both (canonical_body e) (to_be_bytes w32 (crc32 
 
 -- ---- a piece of the file `stdout`
 
-pub record IsPlain (byte : ℕ) : Type 0 where
+pub record IsPlainByte (byte : ℕ) : Type 0 where
   pub some : 0 < byte
   pub ascii : byte < 128
 
-plain : (byte : ℕ) (bytes : List ℕ) → 0 < byte → byte < 128 → All IsPlain bytes → All IsPlain (byte ∷ bytes)
-plain byte bytes some ascii all = All-cons IsPlain byte bytes (record { some = some; ascii = ascii }) all
+plain : (byte : ℕ) (bytes : List ℕ) → 0 < byte → byte < 128 → All IsPlainByte bytes → All IsPlainByte (byte ∷ bytes)
+plain byte bytes some ascii all = All-cons IsPlainByte byte bytes (record { some = some; ascii = ascii }) all
 
-pub plain_text : (bytes : List ℕ) → All IsPlain bytes → IsText bytes
+pub plain_text : (bytes : List ℕ) → All IsPlainByte bytes → IsText bytes
 plain_text bytes all = record {
-  utf8 = IsUtf8-from_ascii bytes (IsAscii-from_all bytes (All-weaker IsPlain (λ byte. byte < 128) (λ byte p. p.ascii) bytes all));
-  no_nul = All-weaker IsPlain (λ byte. byte ≢ 0) (λ byte p same. omega (arith, p.some, same)) bytes all;
+  utf8 = IsUtf8-from_ascii bytes (IsAscii-from_all bytes (All-weaker IsPlainByte (λ byte. byte < 128) (λ byte p. p.ascii) bytes all));
+  no_nul = All-weaker IsPlainByte (λ byte. byte ≢ 0) (λ byte p same. omega (arith, p.some, same)) bytes all;
 }
 
-name_is_plain : All IsPlain (codes "stdout")
-name_is_plain = plain 115 (codes "tdout") (omega arith) (omega arith) (plain 116 (codes "dout") (omega arith) (omega arith) (plain 100 (codes "out") (omega arith) (omega arith) (plain 111 (codes "ut") (omega arith) (omega arith) (plain 117 (codes "t") (omega arith) (omega arith) (plain 116 [] (omega arith) (omega arith) (All-nil IsPlain))))))
+name_is_plain : All IsPlainByte (codes "stdout")
+name_is_plain = plain 115 (codes "tdout") (omega arith) (omega arith) (plain 116 (codes "dout") (omega arith) (omega arith) (plain 100 (codes "out") (omega arith) (omega arith) (plain 111 (codes "ut") (omega arith) (omega arith) (plain 117 (codes "t") (omega arith) (omega arith) (plain 116 [] (omega arith) (omega arith) (All-nil IsPlainByte))))))
 
 name_is_text : IsShortText (codes "stdout")
 name_is_text = record { text = plain_text (codes "stdout") name_is_plain; short = omega arith }

@@ -15,7 +15,7 @@ use Rattle.worker_lane.specs.Inside.{inside_text, inside_event, inside_under, in
 use Rattle.worker_lane.specs.Recorded.{HasPacket}
 use Rattle.worker_lane.proofs.EventLemmas.{plain_text, packet_size_most, length_counted, length_decimal}
 use Rattle.worker_lane.proofs.EndingLemmas.{are_plain, both, plain_by_test, mime_is_text, name_is_text}
-use Rattle.worker_lane.proofs.NoteLemmas.{HavePackets}
+use Rattle.worker_lane.proofs.NoteLemmas.{AreWritable}
 
 id_is_text : IsShortText (codes "subunit.parser")
 unfolding are_plain
@@ -62,7 +62,7 @@ event_fits event lane is small = rw is (inside_fits lane small)
 pub inside_packet : (lane : ℕ) → lane < 64 → HasPacket (inside_under lane)
 inside_packet lane small = record { is_event = inside_is_event lane small; fits = inside_fits lane small }
 
-pub inside_has_packets : (lane : ℕ) (inside : Bool) → lane < 64 → HavePackets (inside_events lane inside)
+pub inside_has_packets : (lane : ℕ) (inside : Bool) → lane < 64 → AreWritable (inside_events lane inside)
 inside_has_packets lane true small = record {
   are_events = All-cons IsEvent (inside_under lane) [] (inside_is_event lane small) (All-nil IsEvent);
   fit = All-cons Fits (inside_under lane) [] (inside_fits lane small) (All-nil Fits);

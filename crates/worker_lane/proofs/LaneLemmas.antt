@@ -9,14 +9,14 @@ use Rattle.edge_io.specs.Steps.{Goes, Stays}
 use Rattle.edge_io.specs.declared.child.Finish.{Finish}
 use Rattle.edge_io.proofs.CausesLemmas.{rose_after, rose_before}
 use Rattle.worker_lane.specs.Endings.{ending_of, EndsSo}
-use Rattle.worker_lane.specs.Rest.{Coursing, lots, lots_asked, new_course, Gives, IsOver}
+use Rattle.worker_lane.specs.Rest.{Coursing, lots, lots_asked, new_course, GivesIfTold, IsOver}
 use Rattle.worker_lane.specs.Courses.{EndsCourse}
 use Rattle.worker_lane.specs.Lanes.{course_rest, KeepsNumber}
 use Rattle.worker_lane.specs.declared.lot.Ending.{Ending}
 use Rattle.worker_lane.specs.declared.lot.Ending.TheVariants.{Fault}
 use Rattle.worker_lane.specs.declared.lot.Lot.{Lot}
 use Rattle.worker_lane.specs.declared.lot.Lot.TheVariants.{Packet}
-use Rattle.worker_lane.specs.declared.stage.Stage.TheVariants.{Over}
+use Rattle.worker_lane.specs.declared.lane_stage.Stage.TheVariants.{Over}
 
 -- ---- a new lane
 
@@ -104,12 +104,12 @@ failed_same (Some s) (Some t) (Some u) before after step broken stopped left = a
 -- ---- lots
 
 -- a packet, while the child is read
-pub packet_told : (told : Option Output) (before after : Coursing) (packet : List ℕ) → AreBytesLeft told → ((output : Output) → AreBytes output.bytes → lots before output ≡ Packet packet ∷ lots after output) → Gives (course_rest before told) (Packet packet ∷ []) (course_rest after told)
+pub packet_told : (told : Option Output) (before after : Coursing) (packet : List ℕ) → AreBytesLeft told → ((output : Output) → AreBytes output.bytes → lots before output ≡ Packet packet ∷ lots after output) → GivesIfTold (course_rest before told) (Packet packet ∷ []) (course_rest after told)
 packet_told None before after packet are step = refl
 packet_told (Some s) before after packet are step = ap Some (step s are)
 
 -- a lot, once it is not
-pub lot_told : (told : Option Output) (before after : Coursing) (given : List Lot) → ((output other : Output) → lots before output ≡ given ++ lots after other) → Gives (course_rest before told) given (course_rest after told)
+pub lot_told : (told : Option Output) (before after : Coursing) (given : List Lot) → ((output other : Output) → lots before output ≡ given ++ lots after other) → GivesIfTold (course_rest before told) given (course_rest after told)
 lot_told None before after given left = refl
 lot_told (Some s) before after given left = ap Some (left s s)
 

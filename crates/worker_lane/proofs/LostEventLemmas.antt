@@ -14,7 +14,7 @@ use Rattle.worker_lane.specs.Sought.{AreShort}
 use Rattle.worker_lane.specs.declared.lot.Ending.{Ending}
 use Rattle.worker_lane.specs.declared.lot.Ending.TheVariants.{Exit, Fault, NoMemory}
 use Rattle.worker_lane.proofs.EventLemmas.{packet_size_most, length_counted, length_decimal}
-use Rattle.worker_lane.proofs.NoteLemmas.{HavePackets}
+use Rattle.worker_lane.proofs.NoteLemmas.{AreWritable}
 use Rattle.worker_lane.proofs.SoughtLemmas.{are_short}
 
 lost_fits : (lane : ℕ) (id : List ℕ) → lane < 64 → length id ≤ 65536 → Fits (under lane (lost_event id))
@@ -43,23 +43,23 @@ lost_packet event lane id packet is is_event fits made = record {
 
 -- ---- each event of a test that was lost has a packet
 
-one_lost : (lane : ℕ) (id : List ℕ) → lane < 64 → IsShortText id → length id ≤ 65536 → HavePackets (under lane (lost_event id) ∷ [])
+one_lost : (lane : ℕ) (id : List ℕ) → lane < 64 → IsShortText id → length id ≤ 65536 → AreWritable (under lane (lost_event id) ∷ [])
 one_lost lane id small text short = record {
   are_events = All-cons IsEvent (under lane (lost_event id)) [] (event_is_event (under lane (lost_event id)) lane id refl small text short) (All-nil IsEvent);
   fit = All-cons Fits (under lane (lost_event id)) [] (lost_fits lane id small short) (All-nil Fits);
 }
 
-none_lost : HavePackets []
+none_lost : AreWritable []
 none_lost = record { are_events = All-nil IsEvent; fit = All-nil Fits }
 
-id_has_packets : (lane : ℕ) (how : Ending) (id : List ℕ) → lane < 64 → IsShortText id → length id ≤ 65536 → HavePackets (lost_under lane how id)
+id_has_packets : (lane : ℕ) (how : Ending) (id : List ℕ) → lane < 64 → IsShortText id → length id ≤ 65536 → AreWritable (lost_under lane how id)
 id_has_packets lane (Exit (pos zero)) id small text short = none_lost
 id_has_packets lane (Exit (pos (suc n))) id small text short = one_lost lane id small text short
 id_has_packets lane (Exit (negsuc n)) id small text short = one_lost lane id small text short
 id_has_packets lane Fault id small text short = one_lost lane id small text short
 id_has_packets lane NoMemory id small text short = none_lost
 
-ids_have_packets : (lane : ℕ) (how : Ending) (ids : List (List ℕ)) → lane < 64 → All IsShortText ids → AreShort ids → HavePackets (lost_events lane how ids)
+ids_have_packets : (lane : ℕ) (how : Ending) (ids : List (List ℕ)) → lane < 64 → All IsShortText ids → AreShort ids → AreWritable (lost_events lane how ids)
 ids_have_packets lane how [] small texts short = none_lost
 ids_have_packets lane how (id ∷ ids) small texts short =
     let first = id_has_packets lane how id small (All-head IsShortText id ids texts) (All-head (λ id. length id ≤ longest_id) id ids short) in
@@ -70,7 +70,7 @@ ids_have_packets lane how (id ∷ ids) small texts short =
     }
 
 -- those of the ids of a job that can be named
-pub lost_have_packets : (lane : ℕ) (how : Ending) (ids : List (List ℕ)) (events : List Event) → lane < 64 → All IsShortText ids → HavePackets (lost_events lane how (lost_ids (named_ids ids) events))
+pub lost_have_packets : (lane : ℕ) (how : Ending) (ids : List (List ℕ)) (events : List Event) → lane < 64 → All IsShortText ids → AreWritable (lost_events lane how (lost_ids (named_ids ids) events))
 lost_have_packets lane how ids events small texts =
     ids_have_packets lane how (lost_ids (named_ids ids) events) small
     (All-filter (is_unheard events) IsShortText (named_ids ids) (All-filter (λ id. nat_le (length id) longest_id) IsShortText ids texts))

@@ -17,8 +17,8 @@ use Rattle.stream_reader.specs.declared.note.Note.{Note}
 use Rattle.stream_reader.specs.declared.note.Note.TheVariants as note
 use Rattle.stream_reader.specs.Notes.{HasNotes, AreFullRuns}
 use Rattle.stream_reader.specs.Stream.{HasGiven, IsMadeOf, AreMadeOf}
-use Rattle.stream_reader.specs.declared.first.First.{First}
-use Rattle.stream_reader.specs.declared.first.First.TheVariants as found
+use Rattle.stream_reader.specs.declared.first_note.First.{First}
+use Rattle.stream_reader.specs.declared.first_note.First.TheVariants as found
 use Rattle.stream_reader.specs.First.{FirstIs}
 use Rattle.stream_reader.proofs.FrontLemmas.{are_before, are_behind}
 use Rattle.stream_reader.proofs.NotesLemmas.{are_full}
@@ -98,39 +98,39 @@ recorded_count lane (note.Event e) front made some = each_way
 
 -- ---- each can be encoded
 
-pub record HavePackets (events : List Event) : Type 0 where
+pub record AreWritable (events : List Event) : Type 0 where
   pub are_events : All IsEvent events
   pub fit : All Fits events
 
-one_packet : (e : Event) → IsEvent e → Fits e → HavePackets (e ∷ [])
+one_packet : (e : Event) → IsEvent e → Fits e → AreWritable (e ∷ [])
 one_packet e is fits = record { are_events = All-cons IsEvent e [] is (All-nil IsEvent); fit = All-cons Fits e [] fits (All-nil Fits) }
 
-packet_of : (e : Event) → HasPacket e → HavePackets (e ∷ [])
+packet_of : (e : Event) → HasPacket e → AreWritable (e ∷ [])
 packet_of e has = one_packet e has.is_event has.fits
 
-pub pieces_have_packets : (lane : ℕ) (pieces : List (List ℕ)) → lane < 64 → All IsPiece pieces → HavePackets (map (stdout_under lane) pieces)
+pub pieces_have_packets : (lane : ℕ) (pieces : List (List ℕ)) → lane < 64 → All IsPiece pieces → AreWritable (map (stdout_under lane) pieces)
 pieces_have_packets lane pieces small are = record {
   are_events = All-map IsEvent (stdout_under lane) pieces (All-weaker IsPiece (λ piece. IsEvent (stdout_under lane piece)) (λ piece is. stdout_is_event lane piece small is.are_bytes is.short) pieces are);
   fit = All-map Fits (stdout_under lane) pieces (All-weaker IsPiece (λ piece. Fits (stdout_under lane piece)) (λ piece is. stdout_fits lane piece small is.short) pieces are);
 }
 
-pub both_have_packets : (first more : List Event) → HavePackets first → HavePackets more → HavePackets (first ++ more)
+pub both_have_packets : (first more : List Event) → AreWritable first → AreWritable more → AreWritable (first ++ more)
 both_have_packets first more h k = record { are_events = All-append IsEvent first more h.are_events k.are_events; fit = All-append Fits first more h.fit k.fit }
 
-pub event_has_packets : (lane : ℕ) (e : Event) (front : List ℕ) → lane < 64 → AreBytes front → SpellsEvent front e → HavePackets (recorded_event lane e)
-event_has_packets lane e front small are made = each_way HavePackets lane e
+pub event_has_packets : (lane : ℕ) (e : Event) (front : List ℕ) → lane < 64 → AreBytes front → SpellsEvent front e → AreWritable (recorded_event lane e)
+event_has_packets lane e front small are made = each_way AreWritable lane e
     (λ fit. one_packet (under lane e) (is_event_under lane e small (spelled_is_event front e are made) fit) fit)
     (λ long. both_have_packets (under lane (first_half e) ∷ []) (under lane (second_half e) ∷ [])
     (packet_of (under lane (first_half e)) (first_has_packet lane front e small are made long))
     (packet_of (under lane (second_half e)) (second_has_packet lane front e small are made long)))
     (λ long short. pieces_have_packets lane (pieces_of (canonical e)) small (are_pieces (canonical e) (canonical_bytes front e are made)))
 
-pub foreign_has_packet : (lane : ℕ) (run front : List ℕ) → lane < 64 → AreBytes front → run ≡ front → length run ≤ 65536 → HavePackets (stdout_under lane run ∷ [])
+pub foreign_has_packet : (lane : ℕ) (run front : List ℕ) → lane < 64 → AreBytes front → run ≡ front → length run ≤ 65536 → AreWritable (stdout_under lane run ∷ [])
 foreign_has_packet lane run front small are made short =
     let are_run : AreBytes run = rw made are in
     one_packet (stdout_under lane run) (stdout_is_event lane run small are_run short) (stdout_fits lane run small short)
 
-pub notes_have_packets : (lane : ℕ) (notes : List Note) (bytes : List ℕ) → lane < 64 → AreBytes bytes → AreMadeOf notes bytes → AreFullRuns notes → HavePackets (recorded_events lane notes)
+pub notes_have_packets : (lane : ℕ) (notes : List Note) (bytes : List ℕ) → lane < 64 → AreBytes bytes → AreMadeOf notes bytes → AreFullRuns notes → AreWritable (recorded_events lane notes)
 notes_have_packets lane [] bytes small are made full = record { are_events = All-nil IsEvent; fit = All-nil Fits }
 notes_have_packets lane (note.Event e ∷ notes) bytes small are (front, rest, parts, first, more) full =
     let whole : AreBytes (front ++ rest) = rw parts at are in

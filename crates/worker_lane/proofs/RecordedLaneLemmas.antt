@@ -12,21 +12,21 @@ use Rattle.packet_codec.proofs.MergeLemmas.{under_is_in_lane, joined_is_merge, p
 use Rattle.stream_reader.specs.declared.note.Note.{Note}
 use Rattle.stream_reader.specs.declared.note.Note.TheVariants as note
 use Rattle.stream_reader.specs.Notes.{HasEvents, stdout_event}
-use Rattle.stream_reader.proofs.NotesLemmas.{are_full, are_made, packets_of, notes_of_packets, events_of_packets, cut_of_written}
+use Rattle.stream_reader.proofs.NotesLemmas.{are_full, are_made, packet_pieces, notes_of_packets, events_of_packets, cut_of_written}
 use Rattle.worker_lane.specs.Inside.{ends_inside, inside_event, inside_under, inside_events}
 use Rattle.worker_lane.specs.Recorded.{HasRecorded, pieces_of, stdout_under, recorded_event, recorded_events}
 use Rattle.worker_lane.specs.RecordedLanes.{AreRecorded}
 use Rattle.worker_lane.proofs.InsideEventLemmas.{inside_has_packets}
-use Rattle.worker_lane.proofs.NoteLemmas.{each_way, both_have_packets, notes_have_packets, HavePackets}
+use Rattle.worker_lane.proofs.NoteLemmas.{each_way, both_have_packets, notes_have_packets, AreWritable}
 
-pub have_packets : (lane : ℕ) (bytes : List ℕ) (events : List Event) → lane < 64 → AreBytes bytes → HasRecorded lane bytes events → HavePackets events
+pub have_packets : (lane : ℕ) (bytes : List ℕ) (events : List Event) → lane < 64 → AreBytes bytes → HasRecorded lane bytes events → AreWritable events
 have_packets lane bytes events small are h =
-    let notes : HavePackets (recorded_events lane h.notes) = notes_have_packets lane h.notes bytes small are (rw (h.are_notes.made) (are_made h.are_notes.pieces [] bytes h.are_notes.cut)) (rw (h.are_notes.made) (are_full h.are_notes.pieces [] (omega arith))) in
+    let notes : AreWritable (recorded_events lane h.notes) = notes_have_packets lane h.notes bytes small are (rw (h.are_notes.made) (are_made h.are_notes.pieces [] bytes h.are_notes.cut)) (rw (h.are_notes.made) (are_full h.are_notes.pieces [] (omega arith))) in
     rw (h.made) (both_have_packets (recorded_events lane h.notes) (inside_events lane (ends_inside bytes)) notes (inside_has_packets lane (ends_inside bytes) small))
 
 -- the packets of events, as a stream, are these events
 pub read_again : (events : List Event) → All IsEvent events → All Fits events → HasEvents (flat_map canonical events) events
-read_again events are fit = (map note.Event events, record { pieces = packets_of events; cut = cut_of_written events are fit; made = sym (notes_of_packets events) }, sym (events_of_packets events))
+read_again events are fit = (map note.Event events, record { pieces = packet_pieces events; cut = cut_of_written events are fit; made = sym (notes_of_packets events) }, sym (events_of_packets events))
 
 abbrev Own : ℕ → Event → Type 0
 Own lane e = is_of_lane lane e ≡ true

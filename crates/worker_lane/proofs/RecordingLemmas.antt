@@ -12,12 +12,12 @@ use Rattle.stream_reader.specs.declared.note.Note.{Note}
 use Rattle.stream_reader.specs.Notes.{HasDecided}
 use Rattle.stream_reader.specs.First.{IsMadeBy}
 use Rattle.stream_reader.specs.Stream.{Held, HasGiven, GivesNote}
-use Rattle.stream_reader.specs.declared.first.First.{First}
+use Rattle.stream_reader.specs.declared.first_note.First.{First}
 use Rattle.stream_reader.proofs.FrontLemmas.{are_behind, are_both}
 use Rattle.stream_reader.proofs.TurnLemmas.{begin_fed, begin_decided, begin_ended, end_whole, gives_none, gives_then}
 use Rattle.worker_lane.specs.Inside.{ends_inside, inside_under, inside_events}
 use Rattle.worker_lane.specs.Recorded.{recorded_note, recorded_events, HasPacket, IsRecorded}
-use Rattle.worker_lane.specs.Scribing.{Scribing, holding, finished, TakesNote, TakesInside, IsAsBefore, GivesEvent, GivesThis, GivesOne, GivesPacket, HasNoNote, HasNone, HasTold, most_left, Recording, GivesPackets, IsRecordedSoFar}
+use Rattle.worker_lane.specs.Scribing.{Scribing, scribe_holding, finished, TakesNote, TakesInside, IsAsBefore, GivesEvent, GivesThis, GivesOne, GivesPacket, HasNoNote, HasNone, HasTold, most_left, Recording, GivesPackets, IsRecordedSoFar}
 use Rattle.worker_lane.specs.Waiting.{PutsFirst, PutsOne, PutsNote}
 use Rattle.stream_end.proofs.InsideLemmas.{given_alike}
 use Rattle.worker_lane.proofs.NoteLemmas.{recorded_count}
@@ -49,7 +49,7 @@ telling_fed false lane fed held piece inside told going_on are telling = (
       ∙ ap ends_inside (sym (append_assoc held piece more)),
 )
 
-pub recording_fed : (fed piece written : List ℕ) (before after : Scribing) → AreBytes piece → before.held.ended ≡ false → after ≡ holding before (before.held.bytes ++ piece) → Recording fed before written → Recording (fed ++ piece) after written
+pub recording_fed : (fed piece written : List ℕ) (before after : Scribing) → AreBytes piece → before.held.ended ≡ false → after ≡ scribe_holding before (before.held.bytes ++ piece) → Recording fed before written → Recording (fed ++ piece) after written
 recording_fed fed piece written before after are going_on after-is r =
     let taken : HasGiven false fed r.notes before.held.bytes = rw going_on at r.taken in
     rw after-is (record {

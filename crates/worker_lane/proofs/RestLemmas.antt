@@ -13,7 +13,7 @@ use Rattle.stream_reader.proofs.FrontLemmas.{are_both}
 use Rattle.stream_reader.proofs.RoomLemmas.{spent_short}
 use Rattle.worker_lane.specs.Inside.{ends_inside, inside_under, inside_events}
 use Rattle.worker_lane.specs.Recorded.{recorded_note, recorded_events}
-use Rattle.worker_lane.specs.Scribing.{Scribing, holding, finished, TakesNote, TakesInside, IsAsBefore, GivesEvent, HasNone}
+use Rattle.worker_lane.specs.Scribing.{Scribing, scribe_holding, finished, TakesNote, TakesInside, IsAsBefore, GivesEvent, HasNone}
 use Rattle.worker_lane.specs.Rest.{notes_of_stream, notes_are, inside_at, events_left}
 use Rattle.stream_end.proofs.InsideLemmas.{given_alike}
 
@@ -89,7 +89,7 @@ given_left before after event more g are are_more none =
 
 -- ---- bytes are fed
 
-pub fed_left : (before : Scribing) (piece more : List ℕ) → before.held.ended ≡ false → events_left before (piece ++ more) ≡ events_left (holding before (before.held.bytes ++ piece)) more
+pub fed_left : (before : Scribing) (piece more : List ℕ) → before.held.ended ≡ false → events_left before (piece ++ more) ≡ events_left (scribe_holding before (before.held.bytes ++ piece)) more
 fed_left before piece more going_on =
     ap (λ (l : List ℕ). before.waiting ++ (recorded_events before.lane (notes_of_stream l) ++ inside_events before.lane (inside_at before.held.ended before.inside l))) (sym (append_assoc before.held.bytes piece more))
     ∙ ap (λ (ended : Bool). before.waiting ++ (recorded_events before.lane (notes_of_stream ((before.held.bytes ++ piece) ++ more)) ++ inside_events before.lane (inside_at ended before.inside ((before.held.bytes ++ piece) ++ more)))) going_on

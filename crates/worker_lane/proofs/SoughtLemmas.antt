@@ -16,7 +16,7 @@ use Rattle.outcome_fold.specs.Order.{text_cmp, among, without, in_byte_order}
 use Rattle.outcome_fold.proofs.OrderLemmas.{texts_total, exact_texts}
 use Rattle.outcome_fold.proofs.SetLemmas.{among_order, among_without, take_one_more}
 use Rattle.outcome_fold.proofs.TableLemmas.{tied_is}
-use Rattle.worker_lane.specs.Lost.{longest_id, named_ids, is_id, is_exists, names, is_unheard, lost_ids}
+use Rattle.worker_lane.specs.Lost.{longest_id, named_ids, is_id, is_exists, is_of_id, is_unheard, lost_ids}
 use Rattle.worker_lane.specs.Sought.{unheard_of, AreShort, IsHeard, SaysNothing, IsFirstUnheard}
 
 -- ---- lists that are filtered
@@ -97,7 +97,7 @@ heard_one old id e is more = filter_same (λ x. not (among (id ∷ []) x)) (is_u
 -- the event says that a test exists, and no more
 heard_exists : (old : List (List ℕ)) (e : Event) → is_exists e.status ≡ true → old ≡ lost_ids old (e ∷ [])
 heard_exists old e is = sym (filter_true (is_unheard (e ∷ [])) (λ x.
-    ap (λ b. not ((names x e && not b) || false)) is ∙ ap (λ b. not (b || false)) (and_false (names x e))) old)
+    ap (λ b. not ((is_of_id x e && not b) || false)) is ∙ ap (λ b. not (b || false)) (and_false (is_of_id x e))) old)
 
 -- it has no id
 pub heard_none : (old : List (List ℕ)) (e : Event) → e.id ≡ None → old ≡ lost_ids old (e ∷ [])

@@ -14,14 +14,14 @@ use Rattle.worker_lane.specs.Inside.{ends_inside, inside_events}
 use Rattle.worker_lane.specs.Recorded.{HasRecorded, recorded_events}
 use Rattle.worker_lane.specs.Endings.{ending_of}
 use Rattle.worker_lane.specs.Lost.{named_ids}
-use Rattle.worker_lane.specs.Rest.{stream_events, Gives, IsOver, last_events, lots_to_give, lots_asked}
+use Rattle.worker_lane.specs.Rest.{stream_events, GivesIfTold, IsOver, last_events, lots_to_give, lots_asked}
 use Rattle.worker_lane.specs.declared.lot.Ending.{Ending}
 use Rattle.worker_lane.specs.declared.lot.Ending.TheVariants.{Exit, Fault, NoMemory}
 use Rattle.worker_lane.specs.declared.lot.Lot.{Lot}
 use Rattle.worker_lane.specs.declared.lot.Lot.TheVariants.{Packet, End}
 use Rattle.worker_lane.proofs.RestLemmas.{the_notes}
 
-pub gives_nothing : (rest : Option (List Lot)) → Gives rest [] rest
+pub gives_nothing : (rest : Option (List Lot)) → GivesIfTold rest [] rest
 gives_nothing None = refl
 gives_nothing (Some lots) = refl
 
@@ -29,19 +29,19 @@ joined : (left : Option (List Lot)) (given others : List Lot) → option_map (λ
 joined None given others = refl
 joined (Some lots) given others = ap Some (sym (append_assoc given others lots))
 
-pub gives_more : (a b c : Option (List Lot)) (given others : List Lot) → Gives a given b → Gives b others c → Gives a (given ++ others) c
+pub gives_more : (a b c : Option (List Lot)) (given others : List Lot) → GivesIfTold a given b → GivesIfTold b others c → GivesIfTold a (given ++ others) c
 gives_more a b c given others first second = first ∙ ap (option_map (λ l. given ++ l)) second ∙ joined c given others
 
 told_or : List Lot → Option (List Lot) → List Lot
 told_or other None = other
 told_or other (Some lots) = lots
 
-pub gives_front : (lots given : List Lot) (left : Option (List Lot)) → Gives (Some lots) given left → (others : List Lot) × (lots ≡ given ++ others)
+pub gives_front : (lots given : List Lot) (left : Option (List Lot)) → GivesIfTold (Some lots) given left → (others : List Lot) × (lots ≡ given ++ others)
 unfolding told_or
 gives_front lots given None h = absurd (grind (arith, h))
 gives_front lots given (Some others) h = (others, ap (told_or lots) h)
 
-pub gives_whole : (lots given : List Lot) (left : Option (List Lot)) → Gives (Some lots) given left → IsOver left → given ≡ lots
+pub gives_whole : (lots given : List Lot) (left : Option (List Lot)) → GivesIfTold (Some lots) given left → IsOver left → given ≡ lots
 unfolding told_or
 gives_whole lots given None h over = absurd (grind (arith, h))
 gives_whole lots given (Some others) h over = sym (ap (told_or lots) h ∙ ap (λ (l : List Lot). given ++ l) over ∙ append-nil given)

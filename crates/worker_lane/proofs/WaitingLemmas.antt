@@ -19,8 +19,8 @@ use Rattle.packet_codec.proofs.PacketLemmas.{one_event}
 use Rattle.packet_codec.proofs.SpelledLemmas.{read_packet}
 use Rattle.packet_codec.proofs.SpellingLemmas.{canonical_spells}
 use Rattle.packet_codec.specs.Routing.{under}
-use Rattle.stream_reader.specs.declared.first.First.{First}
-use Rattle.stream_reader.specs.declared.first.First.TheVariants as found
+use Rattle.stream_reader.specs.declared.first_note.First.{First}
+use Rattle.stream_reader.specs.declared.first_note.First.TheVariants as found
 use Rattle.stream_reader.specs.declared.note.Note.{Note}
 use Rattle.stream_reader.specs.declared.note.Note.TheVariants as note
 use Rattle.worker_lane.specs.declared.waiting_note.Spelling.{Spelling}

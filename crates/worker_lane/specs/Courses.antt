@@ -9,7 +9,7 @@ use Rattle.worker_lane.specs.Rest.{Coursing, events_left, lots}
 use Rattle.worker_lane.specs.declared.lot.Ending.{Ending}
 use Rattle.worker_lane.specs.declared.lot.Ending.TheVariants.{Fault}
 use Rattle.worker_lane.specs.declared.lot.Lot.TheVariants.{Packet, End}
-use Rattle.worker_lane.specs.declared.stage.Stage.TheVariants.{Reading, Closing}
+use Rattle.worker_lane.specs.declared.lane_stage.Stage.TheVariants.{Reading, Closing}
 
 -- the lane, the stage and the mark stay
 pub record KeepsCourse (before after : Coursing) : Type 0 where

@@ -24,8 +24,8 @@ abbrev pub returncode_text : ℤ → List ℕ
 returncode_text status = codes "returncode " ++ signed_decimal status
 
 -- the text that tells of a failed read or wait
-abbrev pub fault_text : List ℕ
-fault_text = codes "read fault"
+abbrev pub read_fault_text : List ℕ
+read_fault_text = codes "read fault"
 
 -- a text has no more bytes than this
 abbrev pub longest_text : ℕ
@@ -58,7 +58,7 @@ abbrev pub ending_events : (lane : ℕ) → Ending → List Event
 ending_events lane (Exit (pos zero)) = []
 ending_events lane (Exit (pos (suc n))) = returncode_under lane (returncode_text (pos (suc n))) ∷ []
 ending_events lane (Exit (negsuc n)) = returncode_under lane (returncode_text (negsuc n)) ∷ []
-ending_events lane Fault = returncode_under lane fault_text ∷ []
+ending_events lane Fault = returncode_under lane read_fault_text ∷ []
 ending_events lane NoMemory = []
 
 -- the packet of an event under the lane

@@ -5,11 +5,11 @@ use Rattle.edge_io.specs.Causes.{Rose}
 use Rattle.edge_io.specs.Children.{Output}
 use Rattle.edge_io.specs.Seen.{Seen}
 use Rattle.worker_lane.specs.Endings.{IsPacketOf}
-use Rattle.worker_lane.specs.Rest.{Coursing, Gives, lots}
+use Rattle.worker_lane.specs.Rest.{Coursing, GivesIfTold, lots}
 use Rattle.worker_lane.specs.declared.lane.Lane.{Lane}
 use Rattle.worker_lane.specs.declared.lot.Lot.{Lot}
 use Rattle.worker_lane.specs.declared.lot.Lot.TheVariants.{Packet}
-use Rattle.worker_lane.specs.declared.stage.Stage.TheVariants.{Over}
+use Rattle.worker_lane.specs.declared.lane_stage.Stage.TheVariants.{Over}
 
 -- the lots that are left, where the child tells what it has left and how it finishes
 abbrev pub course_rest : Coursing → Option Output → Option (List Lot)
@@ -53,7 +53,7 @@ module _ {C : Type 0} where
     pub packet : List ℕ
     pub appended : new ≡ old ++ packet
     pub under : IsPacketOf (lane_number before) packet
-    pub left : Gives (rest seen before) (Packet packet ∷ []) (rest seen after)
+    pub left : GivesIfTold (rest seen before) (Packet packet ∷ []) (rest seen after)
 
   -- the same of a lane, where its child is seen before and after
   abbrev pub KeepsLane : (seen : C → Seen Output) → Lane C → Lane C → Type 0

@@ -22,8 +22,8 @@ abbrev pub named_ids : (ids : List (List ℕ)) → List (List ℕ)
 named_ids ids = filter (λ id. nat_le (length id) longest_id) ids
 
 -- each is a text
-abbrev pub AreTexts : (ids : List (List ℕ)) → Type 0
-AreTexts ids = All IsShortText ids
+abbrev pub AreShortIds : (ids : List (List ℕ)) → Type 0
+AreShortIds ids = All IsShortText ids
 
 -- this id stands there
 abbrev pub is_id : List ℕ → Option (List ℕ) → Bool
@@ -42,12 +42,12 @@ is_exists status.Fail = false
 is_exists status.XFail = false
 
 -- the event is of this id
-abbrev pub names : List ℕ → Event → Bool
-names id e = is_id id e.id
+abbrev pub is_of_id : List ℕ → Event → Bool
+is_of_id id e = is_id id e.id
 
 -- and says more of it than that it exists
 abbrev pub says_of : List ℕ → Event → Bool
-says_of id e = names id e && not (is_exists e.status)
+says_of id e = is_of_id id e && not (is_exists e.status)
 
 -- none of the events does
 abbrev pub is_unheard : List Event → List ℕ → Bool

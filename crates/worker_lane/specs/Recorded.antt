@@ -40,8 +40,8 @@ abbrev pub recorded_events : (lane : ℕ) → List Note → List Event
 recorded_events lane notes = flat_map (recorded_note lane) notes
 
 -- and their packets
-abbrev pub recorded : (lane : ℕ) → List Note → List ℕ
-recorded lane notes = flat_map canonical (recorded_events lane notes)
+abbrev pub recorded_packets : (lane : ℕ) → List Note → List ℕ
+recorded_packets lane notes = flat_map canonical (recorded_events lane notes)
 
 -- the event can be written as a packet
 pub record HasPacket (event : Event) : Type 0 where

@@ -6,7 +6,7 @@ use Rattle.packet_codec.specs.Grammar.{AreBytes}
 use Rattle.packet_codec.specs.Canonical.{canonical, IsEvent, Fits}
 use Rattle.packet_codec.specs.Routing.{under}
 use Rattle.edge_io.specs.Children.{Output}
-use Rattle.stream_reader.specs.Room.{room}
+use Rattle.stream_reader.specs.Room.{reader_room}
 use Rattle.stream_reader.specs.declared.note.Note.{Note}
 use Rattle.stream_reader.specs.Notes.{HasNotes}
 use Rattle.stream_reader.proofs.ExistLemmas.{some_notes}
@@ -15,8 +15,8 @@ use Rattle.worker_lane.specs.Recorded.{recorded_events}
 use Rattle.worker_lane.specs.Scribing.{Scribing}
 use Rattle.worker_lane.specs.Endings.{ending_of, ending_events, IsPacketOf}
 use Rattle.worker_lane.specs.Lost.{named_ids, lost_ids, lost_events}
-use Rattle.worker_lane.specs.declared.stage.Stage.{Stage}
-use Rattle.worker_lane.specs.declared.stage.Stage.TheVariants.{Reading, Closing, Last, Over}
+use Rattle.worker_lane.specs.declared.lane_stage.Stage.{Stage}
+use Rattle.worker_lane.specs.declared.lane_stage.Stage.TheVariants.{Reading, Closing, Last, Over}
 use Rattle.worker_lane.specs.declared.lot.Ending.{Ending}
 use Rattle.worker_lane.specs.declared.lot.Ending.TheVariants.{Exit, Fault, NoMemory}
 use Rattle.worker_lane.specs.declared.lot.Lot.{Lot}
@@ -94,8 +94,8 @@ pub record AppendsNext (before : Coursing) (old : List ℕ) (after : Coursing) (
   pub left : (output : Output) → AreBytes output.bytes → lots before output ≡ Packet packet ∷ lots after output
 
 -- where it is told: these were given, and the others are left
-abbrev pub Gives : {X : Type 0} → Option (List X) → List X → Option (List X) → Type 0
-Gives before given after = before ≡ option_map (λ l. given ++ l) after
+abbrev pub GivesIfTold : {X : Type 0} → Option (List X) → List X → Option (List X) → Type 0
+GivesIfTold before given after = before ≡ option_map (λ l. given ++ l) after
 
 -- where it is told, nothing is left
 abbrev pub IsOver : {X : Type 0} → Option (List X) → Type 0
@@ -112,7 +112,7 @@ pub record IsEventOf (lane : ℕ) (event : Event) : Type 0 where
 pub record IsSoundScribe (scribe : Scribing) : Type 0 where
   pub lane : scribe.lane < 64
   pub are_bytes : AreBytes scribe.held.bytes
-  pub short : length scribe.held.bytes ≤ room
+  pub short : length scribe.held.bytes ≤ reader_room
   pub waiting : All (IsEventOf scribe.lane) scribe.waiting
 
 -- a fault is marked, and want of memory never comes to this

@@ -9,7 +9,7 @@ use Rattle.stream_reader.specs.declared.note.Note.{Note}
 use Rattle.stream_reader.specs.Notes.{HasDecided}
 use Rattle.stream_reader.specs.Stream.{Held, HasGiven, GivesNote, IsSpent}
 use Rattle.worker_lane.specs.Inside.{ends_inside, inside_under, inside_events}
-use Rattle.worker_lane.specs.Recorded.{recorded_note, recorded_events, recorded, HasPacket}
+use Rattle.worker_lane.specs.Recorded.{recorded_note, recorded_events, recorded_packets, HasPacket}
 
 -- The events that are to be given before the next note is taken, and the bytes fed of which no note was taken. Behind
 -- all of that it may be still to be told that the stream has ended inside a packet.
@@ -20,8 +20,8 @@ pub record Scribing : Type 0 where
   pub inside : Bool
 
 -- more bytes were fed
-abbrev pub holding : Scribing → (bytes : List ℕ) → Scribing
-holding scribe bytes = record { lane = scribe.lane; waiting = scribe.waiting; held = record { bytes = bytes; ended = false }; inside = scribe.inside }
+abbrev pub scribe_holding : Scribing → (bytes : List ℕ) → Scribing
+scribe_holding scribe bytes = record { lane = scribe.lane; waiting = scribe.waiting; held = record { bytes = bytes; ended = false }; inside = scribe.inside }
 
 -- the stream has ended behind what is held
 abbrev pub finished : Scribing → Scribing
@@ -115,4 +115,4 @@ pub record GivesPackets (before : Scribing) (old : List ℕ) (after : Scribing) 
 pub record IsRecordedSoFar (lane : ℕ) (bytes written : List ℕ) : Type 0 where
   pub notes : List Note
   pub decided : HasDecided bytes notes
-  pub packets : written ≡ recorded lane notes
+  pub packets : written ≡ recorded_packets lane notes

@@ -9,7 +9,7 @@ use Rattle.packet_codec.specs.Packet.{SpellsEvent}
 use Rattle.packet_codec.specs.Routing.{under}
 use Rattle.packet_codec.proofs.DecidedLemmas.{Decided}
 use Rattle.packet_codec.proofs.SpelledLemmas.{read_packet}
-use Rattle.stream_reader.specs.declared.first.First.{First}
+use Rattle.stream_reader.specs.declared.first_note.First.{First}
 use Rattle.stream_reader.specs.declared.note.Note.{Note}
 use Rattle.stream_reader.specs.declared.note.Note.TheVariants as note
 use Rattle.stream_reader.specs.First.{IsMadeBy}

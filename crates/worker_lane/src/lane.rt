@@ -2,9 +2,9 @@
 
 ghost use Rattle.std.specs.Prelude.{◌≡◌, IfOk, length};
 
-use crate::lane_state::Course;
+use crate::child_end::{stop_child, wait_for_child};
+use crate::lane_state::LaneState;
 use crate::lot::{Ending, Lot};
-use crate::process::{stop, wait_for};
 use edge_io::{Child, Failed, PIECE};
 use std::alloc::Global;
 use sub_number::{Bytes, NoMemory, Text};
@@ -18,7 +18,7 @@ use sub_number::{Bytes, NoMemory, Text};
 /// come to, one step after another.
 #[derive(Drop)]
 pub struct Lane<C> {
-    course: Course,
+    course: LaneState,
     pub(crate) child: C,
     buffer: Vec<u8>,
     ghost room: { length buffer.items ≡ 65536 },
@@ -28,12 +28,12 @@ impl<C: Child> Lane<C> {
     ghost use Rattle.std.specs.Prelude.{◌⊎◌, ◌≤◌, ◌<◌, ◌↔◌, true, false, None, Some, OnOk, OnErr, IfErr, IfSome, IfNone, map};
     ghost use Rattle.std.specs.Option.{option_map, option_to_list};
     ghost use Rattle.worker_lane.specs.Endings.{IsPacketOf, IsLotOf};
-    ghost use Rattle.worker_lane.specs.Rest.{Gives, IsOver, lots_asked, IsMarkedLot, IsEnd};
-    ghost use Rattle.stream_reader.specs.Room.{room, most_held};
+    ghost use Rattle.worker_lane.specs.Rest.{GivesIfTold, IsOver, lots_asked, IsMarkedLot, IsEnd};
+    ghost use Rattle.stream_reader.specs.Room.{reader_room, most_held};
     ghost use Rattle.worker_lane.specs.Lanes.{rest, lane_number, lane_failed, lane_faults, lane_held, IsPast, AppendsPacket, KeepsLane};
     ghost use Rattle.worker_lane.specs.declared.lot.Lot.TheVariants.{Packet, End};
     ghost use Rattle.worker_lane.specs.declared.lot.Ending.TheVariants.{Fault, NoMemory as without_memory};
-    ghost use Rattle.worker_lane.specs.declared.stage.Stage.TheVariants.{Reading, Over};
+    ghost use Rattle.worker_lane.specs.declared.lane_stage.Stage.TheVariants.{Reading, Over};
 
     /// A lane over this child, whose job names these ids. The number is below 64. The child is handed back for want of
     /// memory alone.
@@ -48,7 +48,7 @@ impl<C: Child> Lane<C> {
         ensures count { IfOk result (λ lane. lane_faults C.seen lane ≡ (C.seen child).faults) }
         ensures back { IfErr result (λ same. same ≡ child) }
     {
-        let Ok(course) = Course::new(alloc, number, ids) else {
+        let Ok(course) = LaneState::new(alloc, number, ids) else {
             return Err(child);
         };
         let Ok(buffer) = read_buffer(alloc) else {
@@ -64,7 +64,7 @@ impl<C: Child> Lane<C> {
     /// How many bytes the lane holds of which no note was taken: 4,325,376 at most.
     pub fn held(&self) -> usize
         ensures held { result ≡ lane_held self.now }
-        ensures few { result ≤ room }
+        ensures few { result ≤ reader_room }
     {
         self.course.held()
     }
@@ -75,7 +75,7 @@ impl<C: Child> Lane<C> {
     /// it has, and ends with `Fault`. For want of memory it stops the child, waits for it, and ends with `NoMemory`.
     pub fn step(&mut self) -> Option<Lot>
         ensures keeps { KeepsLane C.seen self.old self.new }
-        ensures gives { (result ≡ Some (End without_memory)) ⊎ Gives (rest C.seen self.old) (option_to_list result) (rest C.seen self.new) }
+        ensures gives { (result ≡ Some (End without_memory)) ⊎ GivesIfTold (rest C.seen self.old) (option_to_list result) (rest C.seen self.new) }
         ensures lack { result ≡ Some (End without_memory) → IsOver (rest C.seen self.new) }
         ensures under { IfSome result (IsLotOf (lane_number self.old)) }
         ensures fault { result ≡ Some (End Fault) → lane_failed self.new ≡ true }
@@ -113,13 +113,13 @@ impl<C: Child> Lane<C> {
     where
         C: Drop,
     {
-        stop(&mut self.child);
+        stop_child(&mut self.child);
     }
 
     // The next lot, where there is memory.
     fn next_lot(&mut self) -> Result<Option<Lot>, NoMemory>
         ensures keeps { KeepsLane C.seen self.old self.new }
-        ensures gives { IfOk result (λ answer. Gives (rest C.seen self.old) (option_to_list answer) (rest C.seen self.new)) }
+        ensures gives { IfOk result (λ answer. GivesIfTold (rest C.seen self.old) (option_to_list answer) (rest C.seen self.new)) }
         ensures under { IfOk result (λ answer. IfSome answer (IsLotOf (lane_number self.old))) }
         ensures marked { IfOk result (λ answer. IfSome answer (λ lot. IsMarkedLot lot (lane_failed self.new))) }
         ensures none { IfOk result (λ answer. (answer ≡ None) ↔ IsPast self.old) }
@@ -140,7 +140,7 @@ impl<C: Child> Lane<C> {
         ensures keeps { KeepsLane C.seen self.old self.new }
         ensures past { IsPast self.new }
     {
-        let failed = stop(&mut self.child);
+        let failed = stop_child(&mut self.child);
         self.course.end(failed);
     }
 
@@ -148,7 +148,7 @@ impl<C: Child> Lane<C> {
     fn read_on(&mut self) -> Result<Option<Bytes>, NoMemory>
         requires { self.old.course.stage ≡ Reading }
         ensures keeps { KeepsLane C.seen self.old self.new }
-        ensures gives { IfOk result (λ answer. Gives (rest C.seen self.old) (map Packet (option_to_list answer)) (rest C.seen self.new)) }
+        ensures gives { IfOk result (λ answer. GivesIfTold (rest C.seen self.old) (map Packet (option_to_list answer)) (rest C.seen self.new)) }
         ensures under { IfOk result (λ answer. IfSome answer (IsPacketOf (lane_number self.old))) }
         ensures some { IfOk result (λ answer. IfSome answer (λ packet. self.new.course.stage ≡ Reading)) }
         ensures none { IfOk result (λ answer. IfNone answer ((self.new.course.stage ≡ Reading → ⊥) × (self.new.course.stage ≡ Over → ⊥))) }
@@ -174,7 +174,7 @@ impl<C: Child> Lane<C> {
     {
         match self.child.read(&mut self.buffer) {
             Ok(0) => {
-                let ending = wait_for(&mut self.child);
+                let ending = wait_for_child(&mut self.child);
                 self.course.close(ending);
                 false
             }
@@ -183,7 +183,7 @@ impl<C: Child> Lane<C> {
                 true
             }
             Err(Failed) => {
-                stop(&mut self.child);
+                stop_child(&mut self.child);
                 self.course.close(Ending::Fault);
                 false
             }

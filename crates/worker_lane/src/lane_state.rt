@@ -8,32 +8,32 @@ ghost use Rattle.worker_lane.specs.Endings.{ending_of, IsPacketOf, IsLotOf};
 ghost use Rattle.worker_lane.specs.Lost.{lost_under, lost_event};
 ghost use Rattle.packet_codec.specs.Routing.{under};
 ghost use Rattle.edge_io.specs.Children.{Output};
-ghost use Rattle.stream_reader.specs.Room.{room, most_held};
+ghost use Rattle.stream_reader.specs.Room.{reader_room, most_held};
 ghost use Rattle.worker_lane.specs.Rest.{lots, new_course, AppendsNext, IsMarkedLot, IsEnd};
 ghost use Rattle.worker_lane.specs.Courses.{KeepsCourse, KeepsLaneAndMark, EndsCourse, GivesHeard, HasNoneHeard, GivesLost, HasNoneLost};
 ghost use Rattle.worker_lane.specs.declared.lot.Lot.TheVariants.{Packet};
 ghost use Rattle.worker_lane.specs.declared.lot.Ending.TheVariants.{Fault, NoMemory as without_memory};
-ghost use Rattle.worker_lane.specs.declared.stage.Stage.TheVariants.{Reading, Closing, Over};
+ghost use Rattle.worker_lane.specs.declared.lane_stage.Stage.TheVariants.{Reading, Closing, Over};
 
+use crate::lane_stage::Stage;
 use crate::lot::{Ending, Lot};
 use crate::scribe::Scribe;
-use crate::sought::Sought;
-use crate::stage::Stage;
+use crate::unheard_ids::UnheardIds;
 use std::alloc::Global;
 use std::marker::Model;
 use sub_number::{Bytes, NoMemory, Text};
 
 /// What is kept of a lane beside its child.
 #[derive(Drop)]
-pub(crate) struct Course {
+pub(crate) struct LaneState {
     scribe: Scribe,
-    sought: Sought,
+    sought: UnheardIds,
     stage: Stage,
     // A read of the child or the wait for it failed.
     failed: bool,
 }
 
-impl Model for Course {
+impl Model for LaneState {
     ghost use Rattle.worker_lane.specs.Rest.{Coursing, IsSoundScribe, IsAtStage};
 
     ghost Value = { Coursing };
@@ -43,15 +43,15 @@ impl Model for Course {
     ghost invariant = { λ c. IsSoundScribe c.scribe × IsAtStage c.stage c.scribe.held.ended c.failed };
 }
 
-impl Course {
+impl LaneState {
     /// The course of a new lane, whose job names these ids. The number is below 64.
     pub(crate) fn new(alloc: Global, number: u32, ids: &[Text]) -> Result<Self, NoMemory>
         requires { number < 64 }
         ensures { IfOk result (λ course. course ≡ new_course number ids.now) }
     {
-        Ok(Course {
+        Ok(LaneState {
             scribe: Scribe::new(alloc, number)?,
-            sought: Sought::new(alloc, ids)?,
+            sought: UnheardIds::new(alloc, ids)?,
             stage: Stage::Reading,
             failed: false,
         })
@@ -60,7 +60,7 @@ impl Course {
     /// How many bytes were given to it of which no note was taken.
     pub(crate) fn held(&self) -> usize
         ensures held { result ≡ length self.now.scribe.held.bytes }
-        ensures few { result ≤ room }
+        ensures few { result ≤ reader_room }
     {
         self.scribe.held()
     }

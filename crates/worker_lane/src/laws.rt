@@ -10,8 +10,8 @@ ghost use Rattle.edge_io.specs.Children.{Output};
 ghost use Rattle.edge_io.specs.declared.child.Finish.{Finish};
 ghost use Rattle.edge_io.specs.declared.child.Finish.TheVariants.{ReadFault, WaitFault};
 ghost use Rattle.worker_lane.specs.Endings.{ending_of};
-ghost use Rattle.worker_lane.specs.Rest.{Coursing, Gives, IsOver, lots_to_give, lots_asked, last_events};
-ghost use Rattle.worker_lane.specs.Lost.{names, named_ids, lost_ids};
+ghost use Rattle.worker_lane.specs.Rest.{Coursing, GivesIfTold, IsOver, lots_to_give, lots_asked, last_events};
+ghost use Rattle.worker_lane.specs.Lost.{is_of_id, named_ids, lost_ids};
 ghost use Rattle.worker_lane.specs.Lanes.{KeepsNumber};
 ghost use Rattle.worker_lane.specs.declared.lot.Ending.{Ending};
 ghost use Rattle.worker_lane.specs.declared.lot.Ending.TheVariants.{Exit, Fault, NoMemory};
@@ -51,12 +51,12 @@ pub fn recording_in_turn()
 /// up to its end: what is recorded of its child's output, and then the output's ending. For want of memory it is the
 /// front of that.
 pub fn lots_in_turn()
-    ensures none { (rest : Option (List Lot)) → Gives rest [] rest }
-    ensures more { (a b c : Option (List Lot)) (given others : List Lot) → Gives a given b → Gives b others c → Gives a (given ++ others) c }
+    ensures none { (rest : Option (List Lot)) → GivesIfTold rest [] rest }
+    ensures more { (a b c : Option (List Lot)) (given others : List Lot) → GivesIfTold a given b → GivesIfTold b others c → GivesIfTold a (given ++ others) c }
     // Where nothing is left, all was given.
-    ensures whole { (lots given : List Lot) (left : Option (List Lot)) → Gives (Some lots) given left → IsOver left → given ≡ lots }
+    ensures whole { (lots given : List Lot) (left : Option (List Lot)) → GivesIfTold (Some lots) given left → IsOver left → given ≡ lots }
     // What was given so far comes first.
-    ensures front { (lots given : List Lot) (left : Option (List Lot)) → Gives (Some lots) given left → (others : List Lot) × (lots ≡ given ++ others) }
+    ensures front { (lots given : List Lot) (left : Option (List Lot)) → GivesIfTold (Some lots) given left → (others : List Lot) × (lots ≡ given ++ others) }
     // The lots of an output are those of the events that are recorded of it.
     ensures recorded { (lane : ℕ) (ids : List (List ℕ)) (output : Output) (events : List Event) → AreBytes output.bytes → HasRecorded lane output.bytes events → lots_asked lane ids output ≡ lots_to_give lane (named_ids ids) events (ending_of output.finish) }
     // Its one end comes last, and tells how the child finished.
@@ -74,5 +74,5 @@ pub fn tests_that_are_lost()
     // What is lost behind more events is what those leave of what was lost before.
     ensures in_turn { (ids : List (List ℕ)) (front more : List Event) → lost_ids ids (front ++ more) ≡ lost_ids (lost_ids ids front) more }
     // Where the child did not end with 0, the events, with those behind them, name each of the ids.
-    ensures named { (lane : ℕ) (ids : List (List ℕ)) (events : List Event) (how : Ending) → (how ≡ Exit (pos 0) → ⊥) → (how ≡ NoMemory → ⊥) → AllByRecursion (λ id. list_any (names id) (events ++ last_events lane ids events how) ≡ true) ids }
+    ensures named { (lane : ℕ) (ids : List (List ℕ)) (events : List Event) (how : Ending) → (how ≡ Exit (pos 0) → ⊥) → (how ≡ NoMemory → ⊥) → AllByRecursion (λ id. list_any (is_of_id id) (events ++ last_events lane ids events how) ≡ true) ids }
 {}

@@ -13,25 +13,25 @@
 //! - `laws`: what holds of all that is recorded
 //! - `lane_laws`: what holds of several streams that are recorded, each under its lane
 //! - `lane`: one worker process, read under its number
-//! - `lane_state`, `stage`, `process`: what is kept of a lane beside its child, how far it has come, and the child's end
-//! - `sought`: the ids of a lane's job of which nothing was heard yet
-//! - `inside`: the event that tells that a stream ends inside a packet
-//! - `lot`, `ending`, `lost`: what a lane gives, the packet that tells of its end, and the event of a test that was lost
+//! - `lane_state`, `lane_stage`, `child_end`: what is kept of a lane beside its child, how far it has come, and the child's end
+//! - `unheard_ids`: the ids of a lane's job of which nothing was heard yet
+//! - `end_inside_packet`: the event that tells that a stream ends inside a packet
+//! - `lot`, `end_packet`, `lost_test`: what a lane gives, the packet that tells of its end, and the event of a test that was lost
 #![tactic(auto)]
 
-mod ending;
-mod inside;
+mod child_end;
+mod end_inside_packet;
+mod end_packet;
 mod lane;
 mod lane_laws;
+mod lane_stage;
 mod lane_state;
 mod laws;
-mod lost;
+mod lost_test;
 mod lot;
-mod process;
 mod scribe;
-mod sought;
-mod stage;
 mod stdout;
+mod unheard_ids;
 mod waiting_note;
 mod whole_stream;
 
@@ -40,5 +40,5 @@ pub use lane_laws::recorded_lanes;
 pub use laws::{lots_in_turn, recorded_streams, recording_in_turn, tests_that_are_lost};
 pub use lot::{Ending, Lot};
 pub use scribe::Scribe;
-pub use sought::LONGEST_ID;
+pub use unheard_ids::LONGEST_ID;
 pub use whole_stream::{recorded_of_pieces, take_packets};

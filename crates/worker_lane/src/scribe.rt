@@ -4,18 +4,18 @@ ghost use Rattle.std.specs.Prelude.{◌≡◌, ◌<◌, ◌≤◌, ◌+◌, ℕ,
 ghost use Rattle.std.specs.Option.{option_to_list};
 ghost use Rattle.packet_codec.specs.Canonical.{canonical};
 ghost use Rattle.stream_reader.specs.First.{FirstIs, IsCandidate, IsForeignAtFront};
-ghost use Rattle.stream_reader.specs.Room.{room};
-ghost use Rattle.stream_reader.specs.declared.first.First.TheVariants.{Packet as APacket, Nothing as NoNote};
+ghost use Rattle.stream_reader.specs.Room.{reader_room};
+ghost use Rattle.stream_reader.specs.declared.first_note.First.TheVariants.{Packet as APacket, Nothing as NoNote};
 ghost use Rattle.worker_lane.specs.Endings.{ending_events, IsPacketOf};
 ghost use Rattle.worker_lane.specs.Inside.{ends_inside as is_inside};
 ghost use Rattle.worker_lane.specs.Lost.{longest_id, IsLostPacket};
 ghost use Rattle.worker_lane.specs.declared.lot.Ending.TheVariants.{Exit, NoMemory as without_memory};
-ghost use Rattle.worker_lane.specs.Scribing.{holding, finished, GivesOne, GivesPacket, HasNoNote, HasNone, most_left, Recording};
+ghost use Rattle.worker_lane.specs.Scribing.{scribe_holding, finished, GivesOne, GivesPacket, HasNoNote, HasNone, most_left, Recording};
 ghost use Rattle.worker_lane.specs.Waiting.{PutsNote};
 
-use crate::ending::{ending_text, returncode_event};
-use crate::inside::inside_event;
-use crate::lost::lost_event;
+use crate::end_inside_packet::inside_event;
+use crate::end_packet::{ending_text, returncode_event};
+use crate::lost_test::lost_event;
 use crate::lot::Ending;
 use crate::stdout::put_stdout;
 use crate::waiting_note::{Waiting, is_nothing, put_first, put_packet};
@@ -75,8 +75,8 @@ impl Scribe {
     /// takes no memory.
     pub fn feed(&mut self, piece: &[u8])
         requires going_on { self.old.held.ended ≡ false }
-        requires in_room { length self.old.held.bytes + length piece.now ≤ room }
-        ensures ok { self.new ≡ holding self.old (self.old.held.bytes ++ piece.now) }
+        requires in_room { length self.old.held.bytes + length piece.now ≤ reader_room }
+        ensures ok { self.new ≡ scribe_holding self.old (self.old.held.bytes ++ piece.now) }
         ensures recording { (fed written : List ℕ) → Recording fed self.old written → Recording (fed ++ piece.now) self.new written }
     {
         self.reader.feed(piece);
@@ -95,7 +95,7 @@ impl Scribe {
     /// How many bytes were fed of which no note was taken. They are 4,325,376 at most.
     pub fn held(&self) -> usize
         ensures held { result ≡ length self.now.held.bytes }
-        ensures in_room { result ≤ room }
+        ensures in_room { result ≤ reader_room }
     {
         self.reader.held()
     }

@@ -21,7 +21,7 @@ use Rattle.run_shelf.specs.declared.faults.ShelfCall.TheVariants.{Append}
 use Rattle.worker_lane.specs.declared.lot.Ending.TheVariants.{NoMemory}
 use Rattle.worker_lane.specs.declared.lot.Lot.{Lot}
 use Rattle.worker_lane.specs.declared.lot.Lot.TheVariants.{End}
-use Rattle.worker_mux.specs.Callers.{AddsPart, GoesOn, IsCaller, KeepsTape, IsOpen, HeardOrKept, StandsBy, Tape, WasHanded, calls_for, calls_of, packet_of, piece_of, pieces_of, recorded}
+use Rattle.worker_mux.specs.Callers.{AddsPart, GoesOn, IsCaller, KeepsTape, IsOpen, HeardOrKept, StandsBy, Tape, WasHanded, calls_for, calls_of, packet_of, pieces_of_lot, pieces_of_lots, bytes_recorded}
 use Rattle.worker_mux.specs.Passes.{lane_count, lots_taken, IsTakerFor}
 use Rattle.worker_mux.specs.declared.belt.Belt.{Belt}
 use Rattle.worker_mux.specs.declared.caller.Caller.{Caller}
@@ -359,15 +359,15 @@ goes_stopped {hears = hears} {keeps = keeps} a b c x y goes taker begun same sto
   begun = begun ∙ goes.begun;
   going = λ so. absurd (true≢false (sym stopped ∙ so));
   keeps = goes.keeps;
-  added = λ start so_far works. subst (λ t. Goes start y.folder.told (Grown (recorded (lots_taken t)))) (sym taker) (goes.added start so_far works);
+  added = λ start so_far works. subst (λ t. Goes start y.folder.told (Grown (bytes_recorded (lots_taken t)))) (sym taker) (goes.added start so_far works);
   counted = λ first so_far. subst (λ t. y.clock ≤ first + calls_of (lots_taken t)) (sym taker) (goes.counted first so_far);
   handed = λ start so_far. handed_same hears keeps b c begun same (λ _. stopped) start y (goes.handed start so_far);
 }
 
-recorded_more : (ps : List Parcel) (p : Parcel) → recorded (ps ++ p ∷ []) ≡ recorded ps ++ packet_of p.lot
+recorded_more : (ps : List Parcel) (p : Parcel) → bytes_recorded (ps ++ p ∷ []) ≡ bytes_recorded ps ++ packet_of p.lot
 recorded_more [] p = append-nil (packet_of p.lot)
 recorded_more (q ∷ qs) p =
-    ap (λ l. packet_of q.lot ++ l) (recorded_more qs p) ∙ sym (append_assoc (packet_of q.lot) (recorded qs) (packet_of p.lot))
+    ap (λ l. packet_of q.lot ++ l) (recorded_more qs p) ∙ sym (append_assoc (packet_of q.lot) (bytes_recorded qs) (packet_of p.lot))
 
 calls_more : (ps : List Parcel) (p : Parcel) → calls_of (ps ++ p ∷ []) ≡ calls_of ps + calls_for (packet_of p.lot)
 calls_more [] p = omega arith
@@ -395,9 +395,9 @@ goes_one before after old new lane lot count begun taken going keeps added calls
   going = going;
   keeps = keeps;
   added = λ start so_far works.
-      let same : recorded (lots_taken before.taker) ++ packet_of lot ≡ recorded (lots_taken after.taker) = sym (recorded_more (lots_taken before.taker) (record { lane = lane; lot = lot })) ∙ ap recorded (sym taken) in
+      let same : bytes_recorded (lots_taken before.taker) ++ packet_of lot ≡ bytes_recorded (lots_taken after.taker) = sym (recorded_more (lots_taken before.taker) (record { lane = lane; lot = lot })) ∙ ap bytes_recorded (sym taken) in
       subst (λ (l : List ℕ). Goes start new.folder.told (Grown l)) same
-      (goes_grown_then start old.folder.told new.folder.told (recorded (lots_taken before.taker)) (packet_of lot) (so_far (unbroken old new keeps works)) (added works));
+      (goes_grown_then start old.folder.told new.folder.told (bytes_recorded (lots_taken before.taker)) (packet_of lot) (so_far (unbroken old new keeps works)) (added works));
   counted = λ first so_far.
       let more : calls_of (lots_taken after.taker) ≡ calls_of (lots_taken before.taker) + calls_for (packet_of lot) = ap calls_of taken ∙ calls_more (lots_taken before.taker) (record { lane = lane; lot = lot }) in
       omega (arith, so_far, calls, more);
@@ -411,16 +411,16 @@ goes_settled {hears = hears} {keeps = keeps} before after count begun same taken
   begun = begun;
   going = λ so. sym stopped ∙ so;
   keeps = tape_same now;
-  added = λ start so_far works. subst (λ (l : List Parcel). Goes start now.folder.told (Grown (recorded l))) (sym taken) (so_far works);
+  added = λ start so_far works. subst (λ (l : List Parcel). Goes start now.folder.told (Grown (bytes_recorded l))) (sym taken) (so_far works);
   counted = λ first so_far. subst (λ (l : List Parcel). now.clock ≤ first + calls_of l) (sym taken) so_far;
   handed = λ start so_far. handed_same hears keeps before after begun same (λ so. stopped ∙ so) start now so_far;
 }
 
 -- ---- and knows what was heard
 
-pieces_more : (ps : List Parcel) (p : Parcel) → pieces_of (ps ++ p ∷ []) ≡ pieces_of ps ++ piece_of p.lot
-pieces_more [] p = append-nil (piece_of p.lot)
-pieces_more (q ∷ qs) p = ap (λ l. piece_of q.lot ++ l) (pieces_more qs p) ∙ sym (append_assoc (piece_of q.lot) (pieces_of qs) (piece_of p.lot))
+pieces_more : (ps : List Parcel) (p : Parcel) → pieces_of_lots (ps ++ p ∷ []) ≡ pieces_of_lots ps ++ pieces_of_lot p.lot
+pieces_more [] p = append-nil (pieces_of_lot p.lot)
+pieces_more (q ∷ qs) p = ap (λ l. pieces_of_lot q.lot ++ l) (pieces_more qs p) ∙ sym (append_assoc (pieces_of_lot q.lot) (pieces_of_lots qs) (pieces_of_lot p.lot))
 
 -- a lot was taken, added and heard
 pub caller_one : {L : Type 0} (hears : L → L → List (List ℕ) → Type 0) (belt : Belt) (before after : Caller L) (lane : ℕ) (lot : Lot)
@@ -429,14 +429,14 @@ pub caller_one : {L : Type 0} (hears : L → L → List (List ℕ) → Type 0) (
     → lots_taken after.taker ≡ lots_taken before.taker ++ record { lane = lane; lot = lot } ∷ []
     → (after.stopped ≡ false → before.stopped ≡ false)
     → (after.stopped ≡ false → lot ≡ End NoMemory → ⊥)
-    → ((pieces : List (List ℕ)) → hears before.begun.value before.listener pieces → after.stopped ≡ false → hears after.begun.value after.listener (pieces ++ piece_of lot))
+    → ((pieces : List (List ℕ)) → hears before.begun.value before.listener pieces → after.stopped ≡ false → hears after.begun.value after.listener (pieces ++ pieces_of_lot lot))
     → IsCaller hears belt after
 caller_one hears belt before after lane lot ready taker taken going well heard =
     let parcel : Parcel = record { lane = lane; lot = lot } in
     record {
       taker = taker;
       well = λ so. subst (AllByRecursion (λ p. p.lot ≡ End NoMemory → ⊥)) (sym taken) (all_more (λ p. p.lot ≡ End NoMemory → ⊥) (lots_taken before.taker) parcel (ready.well (going so)) (well so));
-      heard = λ so. subst (hears after.begun.value after.listener) (sym (pieces_more (lots_taken before.taker) parcel) ∙ ap pieces_of (sym taken)) (heard (pieces_of (lots_taken before.taker)) (ready.heard (going so)) so);
+      heard = λ so. subst (hears after.begun.value after.listener) (sym (pieces_more (lots_taken before.taker) parcel) ∙ ap pieces_of_lots (sym taken)) (heard (pieces_of_lots (lots_taken before.taker)) (ready.heard (going so)) so);
     }
 
 -- all levels, and then what was left on the belt

@@ -13,18 +13,18 @@ use Rattle.edge_io.specs.Children.{Output}
 use Rattle.edge_io.specs.Seen.{Seen}
 use Rattle.worker_lane.specs.Endings.{IsPacketOf}
 use Rattle.worker_lane.specs.Lanes.{rest, lane_number, AppendsPacket}
-use Rattle.worker_lane.specs.Rest.{Gives, IsEventOf, IsOver}
+use Rattle.worker_lane.specs.Rest.{GivesIfTold, IsEventOf, IsOver}
 use Rattle.worker_lane.specs.declared.lane.Lane.{Lane}
 use Rattle.worker_lane.specs.declared.lot.Ending.TheVariants.{NoMemory}
 use Rattle.worker_lane.specs.declared.lot.Lot.{Lot}
 use Rattle.worker_lane.specs.declared.lot.Lot.TheVariants.{Packet, End}
-use Rattle.worker_mux.specs.Passes.{number_of, lots_put, entry_of, IsPassFor}
+use Rattle.worker_mux.specs.Passes.{number_of, lots_put, settled_pass, IsPassFor}
 use Rattle.worker_mux.specs.Callers.{packet_of}
 use Rattle.worker_mux.specs.Packets.{IsWhole}
-use Rattle.worker_mux.specs.Works.{AllWell, ArePacketsUnder, bytes_of, bytes_left, IsOwn, IsReady, given, left, whole, KeepsWork, IsPut, Drives, Settles, Pairs, IsEntryOf}
+use Rattle.worker_mux.specs.Works.{AllWell, ArePacketsUnder, joined_packets, bytes_left, IsOwn, IsReady, lots_given, left, whole, KeepsWork, IsPut, Drives, Settles, Pairs, IsEntryOf}
 use Rattle.worker_mux.specs.declared.belt.Belt.{Belt}
 use Rattle.worker_mux.specs.declared.knowledge.Settled.{Settled}
-use Rattle.worker_mux.specs.declared.pass.LanePass.{LanePass}
+use Rattle.worker_mux.specs.declared.belt_passes.LanePass.{LanePass}
 use Rattle.worker_mux.specs.declared.work.Work.{Work}
 use Rattle.worker_mux.specs.declared.work.Outcome.{Outcome}
 use Rattle.worker_mux.specs.declared.work.Outcome.TheVariants.{Kept, Put, GivenUp}
@@ -83,21 +83,21 @@ own_whole lane (Packet packets) own = (
 
 -- what is left is so much less
 gives_packet : (start : Option (List ℕ)) (old packet new : List ℕ) (before after : Option (List Lot)) → new ≡ old ++ packet → before ≡ option_map (λ l. (Packet packet ∷ []) ++ l) after
-    → start ≡ option_map (λ l. old ++ l) (option_map bytes_of before) → start ≡ option_map (λ l. new ++ l) (option_map bytes_of after)
-gives_packet start old packet new before None appended is so_far = so_far ∙ ap (λ (o : Option (List Lot)). option_map (λ l. old ++ l) (option_map bytes_of o)) is
+    → start ≡ option_map (λ l. old ++ l) (option_map joined_packets before) → start ≡ option_map (λ l. new ++ l) (option_map joined_packets after)
+gives_packet start old packet new before None appended is so_far = so_far ∙ ap (λ (o : Option (List Lot)). option_map (λ l. old ++ l) (option_map joined_packets o)) is
 gives_packet start old packet new before (Some r) appended is so_far =
     so_far
-    ∙ ap (λ (o : Option (List Lot)). option_map (λ l. old ++ l) (option_map bytes_of o)) is
-    ∙ ap Some (sym (append_assoc old packet (bytes_of r)) ∙ ap (λ (l : List ℕ). l ++ bytes_of r) (sym appended))
+    ∙ ap (λ (o : Option (List Lot)). option_map (λ l. old ++ l) (option_map joined_packets o)) is
+    ∙ ap Some (sym (append_assoc old packet (joined_packets r)) ∙ ap (λ (l : List ℕ). l ++ joined_packets r) (sym appended))
 
 -- the same of lots that are not joined
-gives_bytes : (before after : Option (List Lot)) (given : List Lot) → Gives before given after → Gives (option_map bytes_of before) (bytes_of given) (option_map bytes_of after)
-gives_bytes before None given is = ap (option_map bytes_of) is
-gives_bytes before (Some r) given is = ap (option_map bytes_of) is ∙ ap Some (flat_map-append packet_of given r)
+gives_bytes : (before after : Option (List Lot)) (given : List Lot) → GivesIfTold before given after → GivesIfTold (option_map joined_packets before) (joined_packets given) (option_map joined_packets after)
+gives_bytes before None given is = ap (option_map joined_packets) is
+gives_bytes before (Some r) given is = ap (option_map joined_packets) is ∙ ap Some (flat_map-append packet_of given r)
 
-over_bytes : (left : Option (List Lot)) → IsOver left → IsOver (option_map bytes_of left)
+over_bytes : (left : Option (List Lot)) → IsOver left → IsOver (option_map joined_packets left)
 over_bytes None over = tt
-over_bytes (Some l) over = ap bytes_of over
+over_bytes (Some l) over = ap joined_packets over
 
 -- the bytes of all lots, before and after one went on
 whole_step : (P PA KA KM L : List ℕ) (before R : Option (List ℕ)) → before ≡ option_map (λ l. L ++ l) (option_map (λ l. KM ++ l) R) → KM ≡ []
@@ -152,48 +152,48 @@ module _ {C : Type 0} (seen : C → Seen Output) where
   pub joins_more : (lane : ℕ) (before after : Lane C) (old new : List ℕ) → lane_number before ≡ lane → ArePacketsUnder lane old → AppendsPacket seen before old after new → ArePacketsUnder lane new
   joins_more lane before after old new number own more = own_more lane old more.packet new own (subst (λ (n : ℕ). IsPacketOf n more.packet) number more.under) more.appended
 
-  pub gives_more : (before after : Lane C) (old new : List ℕ) (start : Option (List ℕ)) → AppendsPacket seen before old after new → Gives start old (bytes_left seen before) → Gives start new (bytes_left seen after)
+  pub gives_more : (before after : Lane C) (old new : List ℕ) (start : Option (List ℕ)) → AppendsPacket seen before old after new → GivesIfTold start old (bytes_left seen before) → GivesIfTold start new (bytes_left seen after)
   gives_more before after old new start more so_far = gives_packet start old more.packet new (rest seen before) (rest seen after) more.appended more.left so_far
 
-  pub gives_same : (before after : Lane C) (old new : List ℕ) (start : Option (List ℕ)) → (after ≡ before) × (new ≡ old) → Gives start old (bytes_left seen before) → Gives start new (bytes_left seen after)
+  pub gives_same : (before after : Lane C) (old new : List ℕ) (start : Option (List ℕ)) → (after ≡ before) × (new ≡ old) → GivesIfTold start old (bytes_left seen before) → GivesIfTold start new (bytes_left seen after)
   gives_same before after old new start same so_far =
-      subst (λ (l : List ℕ). Gives start l (bytes_left seen after)) (sym same.1) (subst (λ (lane : Lane C). Gives start old (bytes_left seen lane)) (sym same.0) so_far)
+      subst (λ (l : List ℕ). GivesIfTold start l (bytes_left seen after)) (sym same.1) (subst (λ (lane : Lane C). GivesIfTold start old (bytes_left seen lane)) (sym same.0) so_far)
 
   -- the lane's lot, and what was joined to it
-  pub step_gives : (start before : Lane C) (after : Lane C) (lot whole : Lot) → (Some lot ≡ Some (End NoMemory)) ⊎ Gives (rest seen start) (lot ∷ []) (rest seen before)
-      → ((o : Option (List ℕ)) → Gives o (packet_of lot) (bytes_left seen before) → Gives o (packet_of whole) (bytes_left seen after)) → (lot ≡ End NoMemory → whole ≡ End NoMemory)
-      → (Some whole ≡ Some (End NoMemory)) ⊎ Gives (bytes_left seen start) (bytes_of (whole ∷ [])) (bytes_left seen after)
+  pub step_gives : (start before : Lane C) (after : Lane C) (lot whole : Lot) → (Some lot ≡ Some (End NoMemory)) ⊎ GivesIfTold (rest seen start) (lot ∷ []) (rest seen before)
+      → ((o : Option (List ℕ)) → GivesIfTold o (packet_of lot) (bytes_left seen before) → GivesIfTold o (packet_of whole) (bytes_left seen after)) → (lot ≡ End NoMemory → whole ≡ End NoMemory)
+      → (Some whole ≡ Some (End NoMemory)) ⊎ GivesIfTold (bytes_left seen start) (joined_packets (whole ∷ [])) (bytes_left seen after)
   step_gives start before after lot whole (inl out) joins lack = inl (ap Some (lack (let same : lot ≡ End NoMemory = cc in same)))
   step_gives start before after lot whole (inr g) joins lack =
-      let one : Gives (bytes_left seen start) (packet_of lot) (bytes_left seen before) = subst (λ (l : List ℕ). Gives (bytes_left seen start) l (bytes_left seen before)) (append-nil (packet_of lot)) (gives_bytes (rest seen start) (rest seen before) (lot ∷ []) g) in
-      inr (subst (λ (l : List ℕ). Gives (bytes_left seen start) l (bytes_left seen after)) (sym (append-nil (packet_of whole))) (joins (bytes_left seen start) one))
+      let one : GivesIfTold (bytes_left seen start) (packet_of lot) (bytes_left seen before) = subst (λ (l : List ℕ). GivesIfTold (bytes_left seen start) l (bytes_left seen before)) (append-nil (packet_of lot)) (gives_bytes (rest seen start) (rest seen before) (lot ∷ []) g) in
+      inr (subst (λ (l : List ℕ). GivesIfTold (bytes_left seen start) l (bytes_left seen after)) (sym (append-nil (packet_of whole))) (joins (bytes_left seen start) one))
 
   pub step_over : (lane : Lane C) → IsOver (rest seen lane) → IsOver (bytes_left seen lane)
   step_over lane over = over_bytes (rest seen lane) over
 
   -- a lot was put, or kept
   went_on : (start before mid after : Work C) (lot : Lot) → KeepsWork seen start before → mid.kept ≡ None → IfSome before.kept (λ k. Some lot ≡ Some k)
-      → (Some lot ≡ Some (End NoMemory)) ⊎ Gives (left seen before) (bytes_of (lot ∷ [])) (left seen mid)
-      → after.lane ≡ mid.lane → number_of after.pass ≡ number_of before.pass → given after ≡ lots_put before.pass ++ lot ∷ []
-      → ((l : List ℕ) → bytes_of (lots_put after.pass) ++ (bytes_of (option_to_list after.kept) ++ l) ≡ bytes_of (lots_put before.pass) ++ (bytes_of (lot ∷ []) ++ l))
+      → (Some lot ≡ Some (End NoMemory)) ⊎ GivesIfTold (left seen before) (joined_packets (lot ∷ [])) (left seen mid)
+      → after.lane ≡ mid.lane → number_of after.pass ≡ number_of before.pass → lots_given after ≡ lots_put before.pass ++ lot ∷ []
+      → ((l : List ℕ) → joined_packets (lots_put after.pass) ++ (joined_packets (option_to_list after.kept) ++ l) ≡ joined_packets (lots_put before.pass) ++ (joined_packets (lot ∷ []) ++ l))
       → KeepsWork seen start after
   went_on start before mid after lot keeps empty first gives lane number all each =
-      let well : AllWell (given after) → AllWell (given before) = λ so. well_before (lots_put before.pass) lot before.kept first (subst AllWell all so) in
+      let well : AllWell (lots_given after) → AllWell (lots_given before) = λ so. well_before (lots_put before.pass) lot before.kept first (subst AllWell all so) in
       record {
         number = number ∙ keeps.number;
         well = λ so. keeps.well (well so);
         same = λ so. ⊎_elim
             (λ (out : Some lot ≡ Some (End NoMemory)). absurd (well_last (lots_put before.pass) lot (subst AllWell all so) (let same : lot ≡ End NoMemory = cc in same)))
-            (λ (g : Gives (left seen before) (bytes_of (lot ∷ [])) (left seen mid)).
-            ap (λ (l : Lane C). option_map (λ x. bytes_of (lots_put after.pass) ++ x) (option_map (λ x. bytes_of (option_to_list after.kept) ++ x) (bytes_left seen l))) lane
-            ∙ whole_step (bytes_of (lots_put before.pass)) (bytes_of (lots_put after.pass)) (bytes_of (option_to_list after.kept)) (bytes_of (option_to_list mid.kept)) (bytes_of (lot ∷ [])) (left seen before) (bytes_left seen mid.lane) g (ap (λ (k : Option Lot). bytes_of (option_to_list k)) empty) each
+            (λ (g : GivesIfTold (left seen before) (joined_packets (lot ∷ [])) (left seen mid)).
+            ap (λ (l : Lane C). option_map (λ x. joined_packets (lots_put after.pass) ++ x) (option_map (λ x. joined_packets (option_to_list after.kept) ++ x) (bytes_left seen l))) lane
+            ∙ whole_step (joined_packets (lots_put before.pass)) (joined_packets (lots_put after.pass)) (joined_packets (option_to_list after.kept)) (joined_packets (option_to_list mid.kept)) (joined_packets (lot ∷ [])) (left seen before) (bytes_left seen mid.lane) g (ap (λ (k : Option Lot). joined_packets (option_to_list k)) empty) each
             ∙ keeps.same (well so))
             gives;
       }
 
   -- the belt took the lot
   pub was_put : (start before mid : Work C) (after : LanePass) (lot : Lot) → KeepsWork seen start before → mid.pass ≡ before.pass → mid.kept ≡ None → IfSome before.kept (λ k. Some lot ≡ Some k)
-      → (Some lot ≡ Some (End NoMemory)) ⊎ Gives (left seen before) (bytes_of (lot ∷ [])) (left seen mid)
+      → (Some lot ≡ Some (End NoMemory)) ⊎ GivesIfTold (left seen before) (joined_packets (lot ∷ [])) (left seen mid)
       → number_of after ≡ number_of mid.pass → lots_put after ≡ lots_put mid.pass ++ lot ∷ []
       → KeepsWork seen start (record { lane = mid.lane; pass = after; kept = mid.kept })
   was_put start before mid after lot keeps pass empty first gives number more =
@@ -201,11 +201,11 @@ module _ {C : Type 0} (seen : C → Seen Output) where
       went_on start before mid (record { lane = mid.lane; pass = after; kept = mid.kept }) lot keeps empty first gives refl
       (number ∙ ap number_of pass)
       (ap (λ (k : Option Lot). lots_put after ++ option_to_list k) empty ∙ append-nil (lots_put after) ∙ grown)
-      (λ l. ap (λ (k : Option Lot). bytes_of (lots_put after) ++ (bytes_of (option_to_list k) ++ l)) empty ∙ ap (λ x. bytes_of x ++ l) grown ∙ ap (λ (b : List ℕ). b ++ l) (flat_map-append packet_of (lots_put before.pass) (lot ∷ [])) ∙ append_assoc (bytes_of (lots_put before.pass)) (bytes_of (lot ∷ [])) l)
+      (λ l. ap (λ (k : Option Lot). joined_packets (lots_put after) ++ (joined_packets (option_to_list k) ++ l)) empty ∙ ap (λ x. joined_packets x ++ l) grown ∙ ap (λ (b : List ℕ). b ++ l) (flat_map-append packet_of (lots_put before.pass) (lot ∷ [])) ∙ append_assoc (joined_packets (lots_put before.pass)) (joined_packets (lot ∷ [])) l)
 
   -- the belt handed the lot back
   pub was_kept : (start before mid : Work C) (after : LanePass) (lot back : Lot) → KeepsWork seen start before → mid.pass ≡ before.pass → mid.kept ≡ None → IfSome before.kept (λ k. Some lot ≡ Some k)
-      → (Some lot ≡ Some (End NoMemory)) ⊎ Gives (left seen before) (bytes_of (lot ∷ [])) (left seen mid)
+      → (Some lot ≡ Some (End NoMemory)) ⊎ GivesIfTold (left seen before) (joined_packets (lot ∷ [])) (left seen mid)
       → number_of after ≡ number_of mid.pass → lots_put after ≡ lots_put mid.pass → back ≡ lot
       → KeepsWork seen start (record { lane = mid.lane; pass = after; kept = Some back })
   was_kept start before mid after lot back keeps pass empty first gives number same is =
@@ -213,23 +213,23 @@ module _ {C : Type 0} (seen : C → Seen Output) where
       went_on start before mid (record { lane = mid.lane; pass = after; kept = Some back }) lot keeps empty first gives refl
       (number ∙ ap number_of pass)
       (ap (λ x. x ++ back ∷ []) stays ∙ ap (λ (b : Lot). lots_put before.pass ++ b ∷ []) is)
-      (λ l. ap (λ x. bytes_of x ++ (bytes_of (back ∷ []) ++ l)) stays ∙ ap (λ (b : Lot). bytes_of (lots_put before.pass) ++ (bytes_of (b ∷ []) ++ l)) is)
+      (λ l. ap (λ x. joined_packets x ++ (joined_packets (back ∷ []) ++ l)) stays ∙ ap (λ (b : Lot). joined_packets (lots_put before.pass) ++ (joined_packets (b ∷ []) ++ l)) is)
 
   -- the lane gave no lot more
   pub all_put : (start before mid : Work C) → KeepsWork seen start before → mid.pass ≡ before.pass → IfSome before.kept (λ k. None ≡ Some k)
-      → (None ≡ Some (End NoMemory)) ⊎ Gives (left seen before) [] (left seen mid) → IsOver (left seen mid)
+      → (None ≡ Some (End NoMemory)) ⊎ GivesIfTold (left seen before) [] (left seen mid) → IsOver (left seen mid)
       → IsPut seen start mid.pass
   all_put start before mid keeps pass first gives over =
-      let well : AllWell (lots_put mid.pass) → AllWell (given before) = λ so. well_end (lots_put before.pass) before.kept first (subst (λ (p : LanePass). AllWell (lots_put p)) pass so) in
+      let well : AllWell (lots_put mid.pass) → AllWell (lots_given before) = λ so. well_end (lots_put before.pass) before.kept first (subst (λ (p : LanePass). AllWell (lots_put p)) pass so) in
       record {
         number = ap number_of pass ∙ keeps.number;
         well = λ so. keeps.well (well so);
         all = λ so. ⊎_elim
             (λ (out : ◌≡◌ {A = Option Lot} None (Some (End NoMemory))). absurd (let never : ⊥ = cc in never))
-            (λ (g : Gives (left seen before) [] (left seen mid)).
-            subst (λ (p : LanePass). IfSome (whole seen start) (λ l. bytes_of (lots_put p) ≡ l)) (sym pass)
-            (subst (λ (o : Option (List ℕ)). IfSome o (λ l. bytes_of (lots_put before.pass) ≡ l)) (keeps.same (well so))
-            (whole_end (bytes_of (lots_put before.pass)) (left seen before) (left seen mid) g over)))
+            (λ (g : GivesIfTold (left seen before) [] (left seen mid)).
+            subst (λ (p : LanePass). IfSome (whole seen start) (λ l. joined_packets (lots_put p) ≡ l)) (sym pass)
+            (subst (λ (o : Option (List ℕ)). IfSome o (λ l. joined_packets (lots_put before.pass) ≡ l)) (keeps.same (well so))
+            (whole_end (joined_packets (lots_put before.pass)) (left seen before) (left seen mid) g over)))
             gives;
       }
     where
@@ -247,19 +247,19 @@ module _ {C : Type 0} (seen : C → Seen Output) where
   drives_then a b (Put pass) first second = record {
     number = second.number ∙ first.number;
     well = λ so. first.well (second.well so);
-    all = λ so. subst (λ (o : Option (List ℕ)). IfSome o (λ l. bytes_of (lots_put pass) ≡ l)) (first.same (second.well so)) (second.all so);
+    all = λ so. subst (λ (o : Option (List ℕ)). IfSome o (λ l. joined_packets (lots_put pass) ≡ l)) (first.same (second.well so)) (second.all so);
   }
   drives_then a b (GivenUp pass) first second = second ∙ first.number
 
   -- one lane more is settled
   pub settles_more : (work : Work C) (works others : List (Work C)) (pass : LanePass) (m m' : Bool) (first old mid last new : List Settled)
-      → works ≡ work ∷ others → first ≡ old → Settles seen m others first mid → last ≡ mid → new ≡ entry_of pass ∷ last
+      → works ≡ work ∷ others → first ≡ old → Settles seen m others first mid → last ≡ mid → new ≡ settled_pass pass ∷ last
       → (m' ≡ false → m ≡ false) → AllByRecursion (IsOwn (number_of pass)) (lots_put pass) → number_of pass ≡ number_of work.pass → (m' ≡ false → IsPut seen work pass)
       → Settles seen m' works old new
   settles_more work works others pass m m' first old mid last new all begin (table, grown, each) same more memory own number put_all = (
-    entry_of pass ∷ table,
-    more ∙ ap (λ l. entry_of pass ∷ l) (same ∙ grown ∙ ap (λ l. table ++ l) begin),
-    λ so. subst (λ (l : List (Work C)). Pairs (IsEntryOf seen) l (entry_of pass ∷ table)) (sym all) (record { lane = number; own = own; list = λ well. (put_all so).all well }, each (memory so)),
+    settled_pass pass ∷ table,
+    more ∙ ap (λ l. settled_pass pass ∷ l) (same ∙ grown ∙ ap (λ l. table ++ l) begin),
+    λ so. subst (λ (l : List (Work C)). Pairs (IsEntryOf seen) l (settled_pass pass ∷ table)) (sym all) (record { lane = number; own = own; list = λ well. (put_all so).all well }, each (memory so)),
   )
 
   pub settles_none : (works : List (Work C)) (m : Bool) (old new : List Settled) → works ≡ [] → new ≡ old → Settles seen m works old new

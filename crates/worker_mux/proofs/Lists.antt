@@ -7,13 +7,13 @@ use mathlib.Core.Option.{some, some-ne-none}
 use lib.ListN.{get_elem?}
 
 -- a function with another value at one number
-abbrev pub changed : {X : Type 0} → (ℕ → X) → ℕ → X → ℕ → X
-changed f n x m = cond (eqb m n) x (f m)
+abbrev pub changed_at : {X : Type 0} → (ℕ → X) → ℕ → X → ℕ → X
+changed_at f n x m = cond (eqb m n) x (f m)
 
-pub changed_here : {X : Type 0} (f : ℕ → X) (n : ℕ) (x : X) → changed f n x n ≡ x
+pub changed_here : {X : Type 0} (f : ℕ → X) (n : ℕ) (x : X) → changed_at f n x n ≡ x
 changed_here f n x = grind (arith, nat_tests)
 
-pub changed_else : {X : Type 0} (f : ℕ → X) (n : ℕ) (x : X) (m : ℕ) → m ≢ n → changed f n x m ≡ f m
+pub changed_else : {X : Type 0} (f : ℕ → X) (n : ℕ) (x : X) (m : ℕ) → m ≢ n → changed_at f n x m ≡ f m
 changed_else f n x m other = grind (arith, nat_tests)
 
 -- where there is an element, the list is longer

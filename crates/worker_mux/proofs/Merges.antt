@@ -37,11 +37,11 @@ use Rattle.worker_lane.specs.declared.lot.Ending.TheVariants.{NoMemory}
 use Rattle.worker_lane.specs.declared.lot.Lot.{Lot}
 use Rattle.worker_lane.specs.declared.lot.Lot.TheVariants.{Packet, End}
 use Rattle.std.specs.declared.snapshot.Snapshot.{Snapshot}
-use Rattle.worker_mux.specs.Callers.{GoesOn, HasAdded, Tape, calls_for, calls_of, packet_of, recorded, piece_of, pieces_of}
+use Rattle.worker_mux.specs.Callers.{GoesOn, HasAdded, Tape, calls_for, calls_of, packet_of, bytes_recorded, pieces_of_lot, pieces_of_lots}
 use Rattle.worker_mux.specs.Passes.{lane_count, lots_taken, settled_lanes, HasAll, IsOfLanes}
 use Rattle.worker_mux.specs.Rule.{lots_of}
-use Rattle.worker_mux.specs.Runs.{packets_of, AreEventsOf, AddsMerge, HearsMerge, IsRecorded, share, first_share}
-use Rattle.worker_mux.specs.Works.{AllWell, HasBytes, bytes_of, IsOwn, Pairs, IsEntryOf, Settles}
+use Rattle.worker_mux.specs.Runs.{lot_packets, AreEventsOf, AddsMerge, HearsMerge, IsRunRecorded, share, first_share}
+use Rattle.worker_mux.specs.Works.{AllWell, IsLotOfBytes, joined_packets, IsOwn, Pairs, IsEntryOf, Settles}
 use Rattle.worker_mux.specs.declared.caller.Caller.{Caller}
 use Rattle.worker_mux.specs.declared.knowledge.Parcel.{Parcel}
 use Rattle.worker_mux.specs.declared.knowledge.Settled.{Settled}
@@ -109,59 +109,59 @@ own_lane n lane e small also = elim (cases_eq lane n) [
 abbrev AllOwn : List Parcel → Type 0
 AllOwn ps = AllByRecursion (λ p. IsOwn p.lane p.lot) ps
 
-abbrev event_of : (lane : ℕ) (lot : Lot) → IsOwn lane lot → List Event
-event_of lane (Packet packets) own = own.0.events
-event_of lane (End how) own = []
+abbrev events_of_lot : (lane : ℕ) (lot : Lot) → IsOwn lane lot → List Event
+events_of_lot lane (Packet packets) own = own.0.events
+events_of_lot lane (End how) own = []
 
-abbrev events_of : (ps : List Parcel) → AllOwn ps → List Event
-events_of [] own = []
-events_of (p ∷ ps) own = event_of p.lane p.lot own.0 ++ events_of ps own.1
+abbrev events_of_parcels : (ps : List Parcel) → AllOwn ps → List Event
+events_of_parcels [] own = []
+events_of_parcels (p ∷ ps) own = events_of_lot p.lane p.lot own.0 ++ events_of_parcels ps own.1
 
-bytes_of_events : (ps : List Parcel) (own : AllOwn ps) → recorded ps ≡ flat_map canonical (events_of ps own)
+bytes_of_events : (ps : List Parcel) (own : AllOwn ps) → bytes_recorded ps ≡ flat_map canonical (events_of_parcels ps own)
 bytes_of_events [] own = refl
-bytes_of_events (p ∷ ps) own = one p.lane p.lot own.0 (recorded ps) (events_of ps own.1) (bytes_of_events ps own.1)
+bytes_of_events (p ∷ ps) own = one p.lane p.lot own.0 (bytes_recorded ps) (events_of_parcels ps own.1) (bytes_of_events ps own.1)
   where
-    one : (lane : ℕ) (lot : Lot) (is : IsOwn lane lot) (bytes : List ℕ) (events : List Event) → bytes ≡ flat_map canonical events → packet_of lot ++ bytes ≡ flat_map canonical (event_of lane lot is ++ events)
+    one : (lane : ℕ) (lot : Lot) (is : IsOwn lane lot) (bytes : List ℕ) (events : List Event) → bytes ≡ flat_map canonical events → packet_of lot ++ bytes ≡ flat_map canonical (events_of_lot lane lot is ++ events)
     one lane (Packet packets) is bytes events same = (λ i. is.0.packets_are i ++ same i) ∙ sym (flat_map-append canonical is.0.events events)
     one lane (End how) is bytes events same = same
 
 -- the events of each lot of packets are a group
-abbrev group_of : (lane : ℕ) (lot : Lot) → IsOwn lane lot → List (List Event)
-group_of lane (Packet packets) own = own.0.events ∷ []
-group_of lane (End how) own = []
+abbrev groups_of_lot : (lane : ℕ) (lot : Lot) → IsOwn lane lot → List (List Event)
+groups_of_lot lane (Packet packets) own = own.0.events ∷ []
+groups_of_lot lane (End how) own = []
 
 abbrev groups_of : (ps : List Parcel) → AllOwn ps → List (List Event)
 groups_of [] own = []
-groups_of (p ∷ ps) own = group_of p.lane p.lot own.0 ++ groups_of ps own.1
+groups_of (p ∷ ps) own = groups_of_lot p.lane p.lot own.0 ++ groups_of ps own.1
 
-joined : (ps : List Parcel) (own : AllOwn ps) → flat_map (λ group. group) (groups_of ps own) ≡ events_of ps own
+joined : (ps : List Parcel) (own : AllOwn ps) → flat_map (λ group. group) (groups_of ps own) ≡ events_of_parcels ps own
 joined [] own = refl
-joined (p ∷ ps) own = one p.lane p.lot own.0 (groups_of ps own.1) (events_of ps own.1) (joined ps own.1)
+joined (p ∷ ps) own = one p.lane p.lot own.0 (groups_of ps own.1) (events_of_parcels ps own.1) (joined ps own.1)
   where
-    one : (lane : ℕ) (lot : Lot) (is : IsOwn lane lot) (groups : List (List Event)) (events : List Event) → flat_map (λ group. group) groups ≡ events → flat_map (λ group. group) (group_of lane lot is ++ groups) ≡ event_of lane lot is ++ events
+    one : (lane : ℕ) (lot : Lot) (is : IsOwn lane lot) (groups : List (List Event)) (events : List Event) → flat_map (λ group. group) groups ≡ events → flat_map (λ group. group) (groups_of_lot lane lot is ++ groups) ≡ events_of_lot lane lot is ++ events
     one lane (Packet packets) is groups events same = ap (λ (l : List Event). is.0.events ++ l) same
     one lane (End how) is groups events same = same
 
 -- what was heard are the packets of the groups
-pieces_of_events : (ps : List Parcel) (own : AllOwn ps) → pieces_of ps ≡ map (flat_map canonical) (groups_of ps own)
+pieces_of_events : (ps : List Parcel) (own : AllOwn ps) → pieces_of_lots ps ≡ map (flat_map canonical) (groups_of ps own)
 pieces_of_events [] own = refl
-pieces_of_events (p ∷ ps) own = one p.lane p.lot own.0 (pieces_of ps) (groups_of ps own.1) (pieces_of_events ps own.1)
+pieces_of_events (p ∷ ps) own = one p.lane p.lot own.0 (pieces_of_lots ps) (groups_of ps own.1) (pieces_of_events ps own.1)
   where
-    one : (lane : ℕ) (lot : Lot) (is : IsOwn lane lot) (pieces : List (List ℕ)) (groups : List (List Event)) → pieces ≡ map (flat_map canonical) groups → piece_of lot ++ pieces ≡ map (flat_map canonical) (group_of lane lot is ++ groups)
+    one : (lane : ℕ) (lot : Lot) (is : IsOwn lane lot) (pieces : List (List ℕ)) (groups : List (List Event)) → pieces ≡ map (flat_map canonical) groups → pieces_of_lot lot ++ pieces ≡ map (flat_map canonical) (groups_of_lot lane lot is ++ groups)
     one lane (Packet packets) is pieces groups same = λ i. is.0.packets_are i ∷ same i
     one lane (End how) is pieces groups same = same
 
 -- each lot that takes a call has events
-calls_few : (ps : List Parcel) (own : AllOwn ps) → calls_of ps ≤ length (events_of ps own)
+calls_few : (ps : List Parcel) (own : AllOwn ps) → calls_of ps ≤ length (events_of_parcels ps own)
 calls_few [] own = omega arith
-calls_few (p ∷ ps) own = one p.lane p.lot own.0 (events_of ps own.1) (calls_few ps own.1)
+calls_few (p ∷ ps) own = one p.lane p.lot own.0 (events_of_parcels ps own.1) (calls_few ps own.1)
   where
     few : (packets : List ℕ) (events : List Event) → packets ≡ flat_map canonical events → calls_for packets ≤ length events
     few packets [] is = subst (λ (l : List ℕ). calls_for l ≤ 0) (sym is) (omega arith)
     few [] (e ∷ events) is = omega arith
     few (byte ∷ bytes) (e ∷ events) is = omega arith
 
-    one : (lane : ℕ) (lot : Lot) (is : IsOwn lane lot) (events : List Event) → calls_of ps ≤ length events → calls_for (packet_of lot) + calls_of ps ≤ length (event_of lane lot is ++ events)
+    one : (lane : ℕ) (lot : Lot) (is : IsOwn lane lot) (events : List Event) → calls_of ps ≤ length events → calls_for (packet_of lot) + calls_of ps ≤ length (events_of_lot lane lot is ++ events)
     one lane (Packet packets) is events more =
         let here : calls_for packets ≤ length is.0.events = few packets is.0.events is.0.packets_are in
         let both : length (is.0.events ++ events) ≡ length is.0.events + length events = length-append is.0.events events in
@@ -173,12 +173,12 @@ all_under : (P : Event → Type 0) (lane : ℕ) → ((e : Event) → IsEventOf l
 all_under P lane each [] own = All-nil P
 all_under P lane each (e ∷ events) own = All-cons P e events (each e own.0) (all_under P lane each events own.1)
 
-all_of_taken : (P : Event → Type 0) (count : ℕ) → ((lane : ℕ) (e : Event) → lane < count → IsEventOf lane e → P e) → (ps : List Parcel) (own : AllOwn ps) → AllByRecursion (λ p. p.lane < count) ps → All P (events_of ps own)
+all_of_taken : (P : Event → Type 0) (count : ℕ) → ((lane : ℕ) (e : Event) → lane < count → IsEventOf lane e → P e) → (ps : List Parcel) (own : AllOwn ps) → AllByRecursion (λ p. p.lane < count) ps → All P (events_of_parcels ps own)
 all_of_taken P count each [] own below = All-nil P
 all_of_taken P count each (p ∷ ps) own below = one p.lane p.lot own.0 below.0 (all_of_taken P count each ps own.1 below.1)
   where
-    one : (lane : ℕ) (lot : Lot) (is : IsOwn lane lot) → lane < count → All P (events_of ps own.1) → All P (event_of lane lot is ++ events_of ps own.1)
-    one lane (Packet packets) is within more = All-append P is.0.events (events_of ps own.1) (all_under P lane (λ e under. each lane e within under) is.0.events is.0.under) more
+    one : (lane : ℕ) (lot : Lot) (is : IsOwn lane lot) → lane < count → All P (events_of_parcels ps own.1) → All P (events_of_lot lane lot is ++ events_of_parcels ps own.1)
+    one lane (Packet packets) is within more = All-append P is.0.events (events_of_parcels ps own.1) (all_under P lane (λ e under. each lane e within under) is.0.events is.0.under) more
     one lane (End how) is within more = more
 
 -- each is of a lane
@@ -202,19 +202,19 @@ all_or_none n lane small also (e ∷ events) own =
     (λ i. cond (is i) (e ∷ more i) (more i)) ∙ one_more_event (eqb lane n) e events
 
 -- the packets of a lane's events are those among its lots
-lane_packets : (n count : ℕ) → n < 64 → count ≤ 64 → (ps : List Parcel) (own : AllOwn ps) → AllByRecursion (λ p. p.lane < count) ps → bytes_of (lots_of n ps) ≡ flat_map canonical (of_lane n (events_of ps own))
+lane_packets : (n count : ℕ) → n < 64 → count ≤ 64 → (ps : List Parcel) (own : AllOwn ps) → AllByRecursion (λ p. p.lane < count) ps → joined_packets (lots_of n ps) ≡ flat_map canonical (of_lane n (events_of_parcels ps own))
 lane_packets n count small few [] own below = refl
-lane_packets n count small few (p ∷ ps) own below = one p.lane p.lot own.0 below.0 (lots_of n ps) (events_of ps own.1) (lane_packets n count small few ps own.1 below.1)
+lane_packets n count small few (p ∷ ps) own below = one p.lane p.lot own.0 below.0 (lots_of n ps) (events_of_parcels ps own.1) (lane_packets n count small few ps own.1 below.1)
   where
-    packets_at : (b : Bool) (packets : List ℕ) (here : List Event) (lots : List Lot) (events : List Event) → packets ≡ flat_map canonical here → bytes_of lots ≡ flat_map canonical (of_lane n events) → bytes_of (cond b (Packet packets ∷ lots) lots) ≡ flat_map canonical (cond b here [] ++ of_lane n events)
+    packets_at : (b : Bool) (packets : List ℕ) (here : List Event) (lots : List Lot) (events : List Event) → packets ≡ flat_map canonical here → joined_packets lots ≡ flat_map canonical (of_lane n events) → joined_packets (cond b (Packet packets ∷ lots) lots) ≡ flat_map canonical (cond b here [] ++ of_lane n events)
     packets_at true packets here lots events is same = (λ i. is i ++ same i) ∙ sym (flat_map-append canonical here (of_lane n events))
     packets_at false packets here lots events is same = same
 
-    end_at : (b : Bool) (how : _) (lots : List Lot) (events : List Event) → bytes_of lots ≡ flat_map canonical (of_lane n events) → bytes_of (cond b (End how ∷ lots) lots) ≡ flat_map canonical (of_lane n events)
+    end_at : (b : Bool) (how : _) (lots : List Lot) (events : List Event) → joined_packets lots ≡ flat_map canonical (of_lane n events) → joined_packets (cond b (End how ∷ lots) lots) ≡ flat_map canonical (of_lane n events)
     end_at true how lots events same = same
     end_at false how lots events same = same
 
-    one : (lane : ℕ) (lot : Lot) (is : IsOwn lane lot) → lane < count → (lots : List Lot) (events : List Event) → bytes_of lots ≡ flat_map canonical (of_lane n events) → bytes_of (cond (eqb lane n) (lot ∷ lots) lots) ≡ flat_map canonical (of_lane n (event_of lane lot is ++ events))
+    one : (lane : ℕ) (lot : Lot) (is : IsOwn lane lot) → lane < count → (lots : List Lot) (events : List Event) → joined_packets lots ≡ flat_map canonical (of_lane n events) → joined_packets (cond (eqb lane n) (lot ∷ lots) lots) ≡ flat_map canonical (of_lane n (events_of_lot lane lot is ++ events))
     one lane (Packet packets) is within lots events same =
         packets_at (eqb lane n) packets is.0.events lots events is.0.packets_are same
         ∙ ap (λ (l : List Event). flat_map canonical (l ++ of_lane n events)) (sym (all_or_none n lane small (omega (arith, few, within)) is.0.events is.0.under))
@@ -222,12 +222,12 @@ lane_packets n count small few (p ∷ ps) own below = one p.lane p.lot own.0 bel
     one lane (End how) is within lots events same = end_at (eqb lane n) how lots events same
 
 -- and have bytes
-lane_has_bytes : (n : ℕ) (ps : List Parcel) → AllOwn ps → AreBytes (bytes_of (lots_of n ps))
+lane_has_bytes : (n : ℕ) (ps : List Parcel) → AllOwn ps → AreBytes (joined_packets (lots_of n ps))
 lane_has_bytes n [] own = All-nil (λ byte. byte < 256)
 lane_has_bytes n (p ∷ ps) own = one (eqb p.lane n) p.lot own.0.1 (lane_has_bytes n ps own.1)
   where
-    one : (b : Bool) (lot : Lot) → HasBytes lot → AreBytes (bytes_of (lots_of n ps)) → AreBytes (bytes_of (cond b (lot ∷ lots_of n ps) (lots_of n ps)))
-    one true (Packet packets) are more = All-append (λ byte. byte < 256) packets (bytes_of (lots_of n ps)) are more
+    one : (b : Bool) (lot : Lot) → IsLotOfBytes lot → AreBytes (joined_packets (lots_of n ps)) → AreBytes (joined_packets (cond b (lot ∷ lots_of n ps) (lots_of n ps)))
+    one true (Packet packets) are more = All-append (λ byte. byte < 256) packets (joined_packets (lots_of n ps)) are more
     one true (End how) are more = more
     one false lot are more = more
 
@@ -257,7 +257,7 @@ well_lots n (p ∷ ps) all = one (eqb p.lane n) (well_lots n ps all.1)
 
 -- an entry of the table against a lane's number and lots
 abbrev IsOf : ℕ × Option (List ℕ) → Settled → Type 0
-IsOf share entry = (entry.lane ≡ share.0) × AllByRecursion (IsOwn entry.lane) entry.list × (AllWell entry.list → IfSome share.1 (λ l. bytes_of entry.list ≡ l))
+IsOf share entry = (entry.lane ≡ share.0) × AllByRecursion (IsOwn entry.lane) entry.list × (AllWell entry.list → IfSome share.1 (λ l. joined_packets entry.list ≡ l))
 
 first : (j k n m : ℕ) (xs ys : List ℕ) → j ≡ k + 0 → n ∷ xs ≡ k ∷ ys → m ≡ n → j ≡ m
 first j k n m xs ys is same other = let head : n ≡ k = cc in omega arith
@@ -266,18 +266,18 @@ others : (n k : ℕ) (xs ys : List ℕ) → n ∷ xs ≡ k ∷ ys → xs ≡ ys
 others n k xs ys same = cc
 
 -- the bytes of lots are those of their packets
-bytes_of_packets : (lots : List Lot) → bytes_of lots ≡ flat_map (λ packet. packet) (packets_of lots)
+bytes_of_packets : (lots : List Lot) → joined_packets lots ≡ flat_map (λ packet. packet) (lot_packets lots)
 bytes_of_packets [] = refl
 bytes_of_packets (Packet packet ∷ lots) = ap (λ (l : List ℕ). packet ++ l) (bytes_of_packets lots)
 bytes_of_packets (End how ∷ lots) = bytes_of_packets lots
 
-bytes_told : (bytes : List ℕ) (told : Option (List Lot)) → IfSome (option_map bytes_of told) (λ l. bytes ≡ l) → IfSome told (λ l. bytes ≡ bytes_of l)
+bytes_told : (bytes : List ℕ) (told : Option (List Lot)) → IfSome (option_map joined_packets told) (λ l. bytes ≡ l) → IfSome told (λ l. bytes ≡ joined_packets l)
 bytes_told bytes None same = tt
 bytes_told bytes (Some l) same = same
 
 -- where a lane's events are told, they are those that were taken of it
-told_events : (told : Option (List Lot)) (list : Option (List Event)) (lots : List Lot) (events : List Event) → IfSome told (λ l. bytes_of lots ≡ bytes_of l) → AreEventsOf told list → bytes_of lots ≡ flat_map canonical events
-    → AreBytes (bytes_of lots) → All IsEvent events → All Fits events → IfSome list (λ l. events ≡ l)
+told_events : (told : Option (List Lot)) (list : Option (List Event)) (lots : List Lot) (events : List Event) → IfSome told (λ l. joined_packets lots ≡ joined_packets l) → AreEventsOf told list → joined_packets lots ≡ flat_map canonical events
+    → AreBytes (joined_packets lots) → All IsEvent events → All Fits events → IfSome list (λ l. events ≡ l)
 told_events told None lots events same are packets bytes is fit = tt
 told_events None (Some list) lots events same are packets bytes is fit = absurd are
 told_events (Some l) (Some list) lots events same are packets bytes is fit =
@@ -306,29 +306,29 @@ module _ {C : Type 0} (seen : C → Seen Output) where
   -- where a lane tells, what was taken of it is all that it had to give
   each_told : (taken : List Parcel) → AllByRecursion (λ p. p.lot ≡ End NoMemory → ⊥) taken → (lanes : List (Lane C)) (table : List Settled) (k : ℕ) → map lane_number lanes ≡ range_with_len k (length lanes)
       → Pairs IsOf (map (first_share seen) lanes) table → AllByRecursion (λ s. lots_of s.lane taken ≡ s.list) table
-      → (n j : ℕ) → n < length lanes → j ≡ k + n → IfSome (slice_index_or (map (rest seen) lanes) n None) (λ l. bytes_of (lots_of j taken) ≡ bytes_of l)
+      → (n j : ℕ) → n < length lanes → j ≡ k + n → IfSome (slice_index_or (map (rest seen) lanes) n None) (λ l. joined_packets (lots_of j taken) ≡ joined_packets l)
   each_told taken well [] table k numbers pairs accounts n j within is = absurd (omega arith)
   each_told taken well (lane ∷ lanes) [] k numbers pairs accounts n j within is = absurd pairs
   each_told taken well (lane ∷ lanes) (s ∷ table) k numbers pairs accounts zero j within is =
       let here : j ≡ s.lane = first j k (lane_number lane) s.lane (map lane_number lanes) (range_with_len (k + 1) (length lanes)) is numbers pairs.0.0 in
-      subst (λ (lots : List Lot). IfSome (rest seen lane) (λ l. bytes_of lots ≡ bytes_of l)) (sym accounts.0 ∙ ap (λ (i : ℕ). lots_of i taken) (sym here))
-      (bytes_told (bytes_of s.list) (rest seen lane) (pairs.0.2 (subst AllWell accounts.0 (well_lots s.lane taken well))))
+      subst (λ (lots : List Lot). IfSome (rest seen lane) (λ l. joined_packets lots ≡ joined_packets l)) (sym accounts.0 ∙ ap (λ (i : ℕ). lots_of i taken) (sym here))
+      (bytes_told (joined_packets s.list) (rest seen lane) (pairs.0.2 (subst AllWell accounts.0 (well_lots s.lane taken well))))
   each_told taken well (lane ∷ lanes) (s ∷ table) k numbers pairs accounts (suc n) j within is =
       each_told taken well lanes table (k + 1) (others (lane_number lane) k (map lane_number lanes) (range_with_len (k + 1) (length lanes)) numbers) pairs.1 accounts.1 n j (omega arith) (omega arith)
 
   -- all that was taken is of its lanes
   taken_own : (hears : List (List ℕ) → Type 0) (lanes : List (Lane C)) (works : List (Work C)) (count : ℕ) (old new : Tape) → map lane_number lanes ≡ range_with_len 0 (length lanes) → count ≡ length lanes
-      → map (share seen) works ≡ map (first_share seen) lanes → (all : IsRecorded seen hears count works old new) → AllOwn all.taken
+      → map (share seen) works ≡ map (first_share seen) lanes → (all : IsRunRecorded seen hears count works old new) → AllOwn all.taken
   taken_own hears lanes works count old new numbers counted shares all =
       let pairs : Pairs IsOf (map (first_share seen) lanes) all.table = subst (λ (l : List (ℕ × Option (List ℕ))). Pairs IsOf l all.table) shares (pairs_of works all.table all.entries) in
       all_own count all.taken (λ n within. each_own all.taken lanes all.table 0 numbers pairs all.accounts n n (omega (arith, counted)) (omega arith)) all.of_lanes
 
   -- the events of what was taken are a merge of those of the lanes
   merged_of : (hears : List (List ℕ) → Type 0) (lanes : List (Lane C)) (works : List (Work C)) (count : ℕ) (old new : Tape) → length lanes ≤ 64 → map lane_number lanes ≡ range_with_len 0 (length lanes) → count ≡ length lanes
-      → map (share seen) works ≡ map (first_share seen) lanes → (all : IsRecorded seen hears count works old new) → (own : AllOwn all.taken) → (merge : AddsMerge (map (rest seen) lanes) old.folder.told new.folder.told) × (events_of all.taken own ≡ merge.events)
+      → map (share seen) works ≡ map (first_share seen) lanes → (all : IsRunRecorded seen hears count works old new) → (own : AllOwn all.taken) → (merge : AddsMerge (map (rest seen) lanes) old.folder.told new.folder.told) × (events_of_parcels all.taken own ≡ merge.events)
   merged_of hears lanes works count old new few numbers counted shares all own =
       let pairs : Pairs IsOf (map (first_share seen) lanes) all.table = subst (λ (l : List (ℕ × Option (List ℕ))). Pairs IsOf l all.table) shares (pairs_of works all.table all.entries) in
-      let events : List Event = events_of all.taken own in
+      let events : List Event = events_of_parcels all.taken own in
       let is : All IsEvent events = all_of_taken IsEvent count (λ lane e within under. under.is_event) all.taken own all.of_lanes in
       let fit : All Fits events = all_of_taken Fits count (λ lane e within under. under.fits) all.taken own all.of_lanes in
       let size : length (map (rest seen) lanes) ≡ length lanes = length-map lanes (rest seen) in
@@ -357,7 +357,7 @@ module _ {C : Type 0} (seen : C → Seen Output) where
 
   -- with no lack of memory: a merge is added, and was heard
   pub heard_of : (hears : List (List ℕ) → Type 0) (lanes : List (Lane C)) (works : List (Work C)) (count : ℕ) (old new : Tape) → length lanes ≤ 64 → map lane_number lanes ≡ range_with_len 0 (length lanes) → count ≡ length lanes
-      → map (share seen) works ≡ map (first_share seen) lanes → IsRecorded seen hears count works old new → HearsMerge hears (map (rest seen) lanes) old new
+      → map (share seen) works ≡ map (first_share seen) lanes → IsRunRecorded seen hears count works old new → HearsMerge hears (map (rest seen) lanes) old new
   heard_of hears lanes works count old new few numbers counted shares all =
       let own : AllOwn all.taken = taken_own hears lanes works count old new numbers counted shares all in
       let merged = merged_of hears lanes works count old new few numbers counted shares all own in
@@ -367,8 +367,8 @@ module _ {C : Type 0} (seen : C → Seen Output) where
         parts = joined all.taken own ∙ merged.1;
         heard = subst hears (pieces_of_events all.taken own) all.heard;
         few =
-            let size : length (events_of all.taken own) ≡ length merged.0.events = ap length merged.1 in
-            let calls : calls_of all.taken ≤ length (events_of all.taken own) = calls_few all.taken own in
+            let size : length (events_of_parcels all.taken own) ≡ length merged.0.events = ap length merged.1 in
+            let calls : calls_of all.taken ≤ length (events_of_parcels all.taken own) = calls_few all.taken own in
             omega (arith, all.few, calls, size);
       }
 
@@ -383,17 +383,17 @@ module _ {C : Type 0} (seen : C → Seen Output) where
       → settled_lanes last.taker ≡ settled_lanes between.taker
       → (last.stopped ≡ false → HasAll last.taker × IsOfLanes last.taker)
       → (last.stopped ≡ false → AllByRecursion (λ p. p.lot ≡ End NoMemory → ⊥) (lots_taken last.taker))
-      → (last.stopped ≡ false → hears last.begun.value last.listener (pieces_of (lots_taken last.taker)))
+      → (last.stopped ≡ false → hears last.begun.value last.listener (pieces_of_lots (lots_taken last.taker)))
       → last.stopped ≡ false → new.fault ≡ None
-      → IsRecorded seen (hears listener last.listener) (lane_count first.taker) works old new
+      → IsRunRecorded seen (hears listener last.listener) (lane_count first.taker) works old new
   all_recorded {L = L} hears listener first between last old mid new works begun_with nothing none_settled levels (table, grown, each) left same empty well heard going no_fault =
       let all : settled_lanes last.taker ≡ table = same ∙ grown ∙ ap (λ l. table ++ l) none_settled ∙ append-nil table in
       let taken : List Parcel = lots_taken last.taker in
-      let begun : HasAdded old.folder.told first old = λ _. subst (λ (l : List Parcel). Goes old.folder.told old.folder.told (Grown (recorded l))) (sym nothing) (goes_grown_none old.folder.told) in
+      let begun : HasAdded old.folder.told first old = λ _. subst (λ (l : List Parcel). Goes old.folder.told old.folder.told (Grown (bytes_recorded l))) (sym nothing) (goes_grown_none old.folder.told) in
       record {
         taken = taken;
         table = table;
-        heard = subst (λ l. hears l last.listener (pieces_of taken)) (ap (λ (c : Snapshot L). c.value) (left.begun ∙ levels.begun) ∙ begun_with) (heard going);
+        heard = subst (λ l. hears l last.listener (pieces_of_lots taken)) (ap (λ (c : Snapshot L). c.value) (left.begun ∙ levels.begun) ∙ begun_with) (heard going);
         added = left.added old.folder.told (levels.added old.folder.told begun) no_fault;
         few = left.counted old.clock (levels.counted old.clock (omega arith));
         entries = each (left.going going);
@@ -425,6 +425,6 @@ recorded_where (Err lack) gives all = tt
 
 -- the same where it answered
 pub heard_if : {C T E : Type 0} (seen : C → Seen Output) (hears : List (List ℕ) → Type 0) (answer : Result T E) (lanes : List (Lane C)) (works : List (Work C)) (count : ℕ) (fault : Option ShelfCall) (old new : Tape) → length lanes ≤ 64 → map lane_number lanes ≡ range_with_len 0 (length lanes) → count ≡ length lanes
-    → map (share seen) works ≡ map (first_share seen) lanes → OnOk answer (fault ≡ None → IsRecorded seen hears count works old new) → OnOk answer (fault ≡ None → HearsMerge hears (map (rest seen) lanes) old new)
+    → map (share seen) works ≡ map (first_share seen) lanes → OnOk answer (fault ≡ None → IsRunRecorded seen hears count works old new) → OnOk answer (fault ≡ None → HearsMerge hears (map (rest seen) lanes) old new)
 heard_if seen hears answer lanes works count fault old new few numbers counted shares all =
     on_ok_weaker answer (λ recorded no_fault. heard_of seen hears lanes works count old new few numbers counted shares (recorded no_fault)) all

@@ -17,7 +17,7 @@ use Rattle.worker_mux.specs.declared.knowledge.Knowledge.{Knowledge}
 use Rattle.worker_mux.specs.declared.knowledge.Knowledge.TheVariants.{Spent, Lane, Taker}
 use Rattle.worker_mux.specs.Rule.{lots_of, HasHolder, Knows, IsSettled, Kept}
 use Rattle.worker_mux.specs.Packets.{IsWhole}
-use Rattle.worker_mux.proofs.Lists.{all_more, changed, changed_here, changed_else, below}
+use Rattle.worker_mux.proofs.Lists.{all_more, changed_at, changed_here, changed_else, below}
 
 -- the lots of a lane in two lists, one after the other
 pub lots_of-append : (n : ℕ) (ps qs : List Parcel) → lots_of n (ps ++ qs) ≡ lots_of n ps ++ lots_of n qs
@@ -34,16 +34,16 @@ NoTaker Spent = Unit {0}
 NoTaker (Lane n list) = Unit {0}
 NoTaker (Taker c t s) = ⊥
 
-abbrev lane_number : Knowledge → ℕ
-lane_number Spent = 0
-lane_number (Lane n list) = n
-lane_number (Taker c t s) = 0
+abbrev number_known : Knowledge → ℕ
+number_known Spent = 0
+number_known (Lane n list) = n
+number_known (Taker c t s) = 0
 
 lane_and_taker : (views : List Knowledge) (pass other n c : ℕ) (list : List Lot) (t : List Parcel) (s : List Settled) → get_elem? views pass ≡ some (Lane n list) → get_elem? views other ≡ some (Taker c t s) → pass ≢ other
 lane_and_taker views pass other n c list t s here there same = subst NoTaker (some-injective (Lane n list) (Taker c t s) (sym here ∙ ap (λ k. get_elem? views k) same ∙ there)) tt
 
 two_lanes : (views : List Knowledge) (pass other m n : ℕ) (list more : List Lot) → get_elem? views pass ≡ some (Lane m list) → get_elem? views other ≡ some (Lane n more) → m ≢ n → pass ≢ other
-two_lanes views pass other m n list more here there else same = else (ap lane_number (some-injective (Lane m list) (Lane n more) (sym here ∙ ap (λ k. get_elem? views k) same ∙ there)))
+two_lanes views pass other m n list more here there else same = else (ap number_known (some-injective (Lane m list) (Lane n more) (sym here ∙ ap (λ k. get_elem? views k) same ∙ there)))
 
 -- a holder stays where another view changes
 holder_stays : (views : List Knowledge) (settled : List Settled) (n : ℕ) (list : List Lot) (seat : Option ℕ) (at : ℕ) (w : Knowledge) → ((pass : ℕ) → get_elem? views pass ≡ some (Lane n list) → pass ≢ at) → HasHolder views settled n list seat → HasHolder (set views at w) settled n list seat
@@ -66,7 +66,7 @@ one_more parcel m so_far = by_number parcel.lane parcel.lot m so_far
       | inr other ↦ grind (arith, nat_tests, append-nil so_far)
     ]
 
-put_each : (parcel : Parcel) (taken items : List Parcel) (sent : ℕ → List Lot) → ((m : ℕ) → lots_of m taken ++ lots_of m items ≡ sent m) → (m : ℕ) → lots_of m taken ++ lots_of m (items ++ parcel ∷ []) ≡ changed sent parcel.lane (sent parcel.lane ++ parcel.lot ∷ []) m
+put_each : (parcel : Parcel) (taken items : List Parcel) (sent : ℕ → List Lot) → ((m : ℕ) → lots_of m taken ++ lots_of m items ≡ sent m) → (m : ℕ) → lots_of m taken ++ lots_of m (items ++ parcel ∷ []) ≡ changed_at sent parcel.lane (sent parcel.lane ++ parcel.lot ∷ []) m
 put_each parcel taken items sent each m =
     ap (λ rest. lots_of m taken ++ rest) (lots_of-append m items (parcel ∷ []))
     ∙ sym (append_assoc (lots_of m taken) (lots_of m items) (lots_of m (parcel ∷ [])))
@@ -74,18 +74,18 @@ put_each parcel taken items sent each m =
     ∙ one_more parcel m (sent m)
     ∙ by_number parcel.lane parcel.lot sent m
   where
-    by_number : (n : ℕ) (lot : Lot) (sent : ℕ → List Lot) (m : ℕ) → cond (eqb m n) (sent m ++ lot ∷ []) (sent m) ≡ changed sent n (sent n ++ lot ∷ []) m
+    by_number : (n : ℕ) (lot : Lot) (sent : ℕ → List Lot) (m : ℕ) → cond (eqb m n) (sent m ++ lot ∷ []) (sent m) ≡ changed_at sent n (sent n ++ lot ∷ []) m
     by_number n lot sent m = elim (cases_eq m n) [ inl same ↦ rw same refl | inr other ↦ grind (arith, nat_tests) ]
 
 -- a settled lane is not one that has a pass
-settled_else : (count : ℕ) (seat : ℕ → Option ℕ) (sent : ℕ → List Lot) (n pass : ℕ) (list : List Lot) → seat n ≡ some pass → (settled : List Settled) → AllByRecursion (IsSettled count seat sent) settled → AllByRecursion (IsSettled count seat (changed sent n list)) settled
+settled_else : (count : ℕ) (seat : ℕ → Option ℕ) (sent : ℕ → List Lot) (n pass : ℕ) (list : List Lot) → seat n ≡ some pass → (settled : List Settled) → AllByRecursion (IsSettled count seat sent) settled → AllByRecursion (IsSettled count seat (changed_at sent n list)) settled
 settled_else count seat sent n pass list seated [] table = tt
 settled_else count seat sent n pass list seated (s ∷ rest) table =
     let other : s.lane ≢ n = λ same. some-ne-none pass (sym seated ∙ ap seat (sym same) ∙ table.0.0) in
     ((table.0.0, table.0.1 ∙ sym (changed_else sent n list s.lane other), table.0.2), settled_else count seat sent n pass list seated rest table.1)
 
 -- what the other passes know stays true when the lane of one pass has put more
-others_know : (reader count : ℕ) (taken : List Parcel) (settled : List Settled) (seat : ℕ → Option ℕ) (sent : ℕ → List Lot) (n pass : ℕ) (list : List Lot) → seat n ≡ some pass → (j : ℕ) → j ≢ pass → (v : Knowledge) → Knows reader count taken settled seat sent j v → Knows reader count taken settled seat (changed sent n list) j v
+others_know : (reader count : ℕ) (taken : List Parcel) (settled : List Settled) (seat : ℕ → Option ℕ) (sent : ℕ → List Lot) (n pass : ℕ) (list : List Lot) → seat n ≡ some pass → (j : ℕ) → j ≢ pass → (v : Knowledge) → Knows reader count taken settled seat sent j v → Knows reader count taken settled seat (changed_at sent n list) j v
 others_know reader count taken settled seat sent n pass list seated j apart Spent knows = tt
 others_know reader count taken settled seat sent n pass list seated j apart (Lane m l) knows =
     let other : m ≢ n = λ same. apart (some-injective j pass (sym knows.0 ∙ ap seat same ∙ seated)) in
@@ -99,7 +99,7 @@ puts cap pass list parcel is_whole items views room (reader, count, taken, settl
     let mine : (seat n ≡ some pass) × (list ≡ sent n) × (n < count) = whole.known pass (Lane n list) at in
     let after : Knowledge = Lane n (list ++ parcel.lot ∷ []) in
     let longer : List Lot = sent n ++ parcel.lot ∷ [] in
-    let grown : ℕ → List Lot = changed sent n longer in
+    let grown : ℕ → List Lot = changed_at sent n longer in
     let same_list : list ++ parcel.lot ∷ [] ≡ grown n = ap (λ l. l ++ parcel.lot ∷ []) mine.1 ∙ sym (changed_here sent n longer) in (
       after,
       (
@@ -174,7 +174,7 @@ takes pass c t s parcel items views (reader, count, taken, settled, seat, sent, 
     )
 
 -- the table where one lane loses its pass, and is settled
-settled_more : (count : ℕ) (seat : ℕ → Option ℕ) (sent : ℕ → List Lot) (n : ℕ) (settled : List Settled) → AllByRecursion (IsSettled count seat sent) settled → AllByRecursion (IsSettled count (changed seat n none) sent) settled
+settled_more : (count : ℕ) (seat : ℕ → Option ℕ) (sent : ℕ → List Lot) (n : ℕ) (settled : List Settled) → AllByRecursion (IsSettled count seat sent) settled → AllByRecursion (IsSettled count (changed_at seat n none) sent) settled
 settled_more count seat sent n [] table = tt
 settled_more count seat sent n (s ∷ rest) table =
     ((elim (cases_eq s.lane n) [ inl same ↦ rw same (changed_here seat n none) | inr other ↦ changed_else seat n none s.lane other ∙ table.0.0 ], table.0.1, table.0.2), settled_more count seat sent n rest table.1)
@@ -199,7 +199,7 @@ settles pass other n c list t s items views (reader, count, taken, settled, seat
     let both : Knowledge = Taker c t (entry ∷ s) in
     let was : get_elem? views other ≡ some (Lane n list) = ⊎_elim (λ x. absurd (two x.0)) (λ x. x.1) (at_set views pass other both (Lane n list) at') in
     let theirs : (seat n ≡ some other) × (list ≡ sent n) × (n < count) = whole.known other (Lane n list) was in
-    let seats : ℕ → Option ℕ = changed seat n none in
+    let seats : ℕ → Option ℕ = changed_at seat n none in
     let between : List Knowledge = set views pass both in
     let after : List Knowledge = set between other Spent in (
       reader,
@@ -229,7 +229,7 @@ settles pass other n c list t s items views (reader, count, taken, settled, seat
       },
     )
   where
-    unseated : (reader count : ℕ) (taken : List Parcel) (settled settled' : List Settled) (seat : ℕ → Option ℕ) (sent : ℕ → List Lot) (n other : ℕ) → seat n ≡ some other → (pass : ℕ) → pass ≡ reader → (j : ℕ) → j ≢ other → j ≢ pass → (v : Knowledge) → Knows reader count taken settled seat sent j v → Knows reader count taken settled' (changed seat n none) sent j v
+    unseated : (reader count : ℕ) (taken : List Parcel) (settled settled' : List Settled) (seat : ℕ → Option ℕ) (sent : ℕ → List Lot) (n other : ℕ) → seat n ≡ some other → (pass : ℕ) → pass ≡ reader → (j : ℕ) → j ≢ other → j ≢ pass → (v : Knowledge) → Knows reader count taken settled seat sent j v → Knows reader count taken settled' (changed_at seat n none) sent j v
     unseated reader count taken settled settled' seat sent n other seated pass is j apart apart' Spent knows = tt
     unseated reader count taken settled settled' seat sent n other seated pass is j apart apart' (Lane m l) knows =
         let else : m ≢ n = λ same. apart (some-injective j other (sym knows.0 ∙ ap seat same ∙ seated)) in
@@ -283,7 +283,7 @@ adds pass c t s items views (reader, count, taken, settled, seat, sent, whole) a
     let right : Knowledge = Lane c [] in
     let between : List Knowledge = set views pass left in
     let port : ℕ = length between in
-    let seats : ℕ → Option ℕ = changed seat c (some port) in
+    let seats : ℕ → Option ℕ = changed_at seat c (some port) in
     let fresh : (seat c ≡ none) × (sent c ≡ []) = whole.none_yet c (omega (arith, mine.1)) in (
       reader,
       count + 1,
@@ -315,12 +315,12 @@ adds pass c t s items views (reader, count, taken, settled, seat, sent, whole) a
     earlier : (m c count : ℕ) → m < count + 1 → c ≡ count → m ≢ c → m < count
     earlier m c count before same other = omega (arith, same, other)
 
-    settled_before : (seat : ℕ → Option ℕ) (sent : ℕ → List Lot) (c port count : ℕ) → count ≤ c → (settled : List Settled) → AllByRecursion (IsSettled count seat sent) settled → AllByRecursion (IsSettled (count + 1) (changed seat c (some port)) sent) settled
+    settled_before : (seat : ℕ → Option ℕ) (sent : ℕ → List Lot) (c port count : ℕ) → count ≤ c → (settled : List Settled) → AllByRecursion (IsSettled count seat sent) settled → AllByRecursion (IsSettled (count + 1) (changed_at seat c (some port)) sent) settled
     settled_before seat sent c port count above [] table = tt
     settled_before seat sent c port count above (s ∷ rest) table =
         ((changed_else seat c (some port) s.lane (λ same. omega (arith, table.0.2)) ∙ table.0.0, table.0.1, omega (arith, table.0.2)), settled_before seat sent c port count above rest table.1)
 
-    seated_before : (reader count : ℕ) (taken : List Parcel) (settled : List Settled) (seat : ℕ → Option ℕ) (sent : ℕ → List Lot) (c port : ℕ) → seat c ≡ none → (pass : ℕ) → pass ≡ reader → (j : ℕ) → j ≢ pass → (v : Knowledge) → Knows reader count taken settled seat sent j v → Knows reader (count + 1) taken settled (changed seat c (some port)) sent j v
+    seated_before : (reader count : ℕ) (taken : List Parcel) (settled : List Settled) (seat : ℕ → Option ℕ) (sent : ℕ → List Lot) (c port : ℕ) → seat c ≡ none → (pass : ℕ) → pass ≡ reader → (j : ℕ) → j ≢ pass → (v : Knowledge) → Knows reader count taken settled seat sent j v → Knows reader (count + 1) taken settled (changed_at seat c (some port)) sent j v
     seated_before reader count taken settled seat sent c port free pass is j apart Spent knows = tt
     seated_before reader count taken settled seat sent c port free pass is j apart (Lane m l) knows =
         let other : m ≢ c = λ same. some-ne-none j (sym knows.0 ∙ ap seat same ∙ free) in

@@ -11,7 +11,7 @@ use Rattle.worker_mux.specs.declared.knowledge.Parcel.{Parcel}
 use Rattle.worker_mux.specs.declared.knowledge.Settled.{Settled}
 use Rattle.worker_mux.specs.declared.knowledge.Knowledge.{Knowledge}
 use Rattle.worker_mux.specs.declared.knowledge.Knowledge.TheVariants.{Spent, Lane, Taker}
-use Rattle.worker_mux.specs.Rule.{lots_of, IsSettled, Kept, FirstPartsTaken, AllTaken, Stood, Tells, WasTaken, IsLane, IsTaker, put_of, taken_of, settled_of, count_of, with_settled, with_lane, new_lane}
+use Rattle.worker_mux.specs.Rule.{lots_of, IsSettled, Kept, FirstPartsTaken, AllTaken, Stood, TakerLearns, WasTaken, IsLane, IsTaker, put_of, taken_of, settled_of, count_of, with_settled, with_lane, new_lane}
 use Rattle.worker_mux.specs.Packets.{IsWhole}
 use Rattle.worker_mux.proofs.Lists.{below}
 use Rattle.worker_mux.proofs.Steps.{puts, takes, settles, adds}
@@ -46,7 +46,7 @@ left_nil [] ys empty = refl
 left_nil (x ∷ xs) ys empty = cc
 
 -- what a step tells the taker
-pub tells_taker : (pass count : ℕ) (taken : List Parcel) (settled : List Settled) → Learns Kept pass (Taker count taken settled) (Tells (Taker count taken settled))
+pub tells_taker : (pass count : ℕ) (taken : List Parcel) (settled : List Settled) → Learns Kept pass (Taker count taken settled) (TakerLearns (Taker count taken settled))
 tells_taker pass c t s items views (reader, count, taken, settled, seat, sent, whole) at =
     let mine : (pass ≡ reader) × (c ≡ count) × (t ≡ taken) × (s ≡ settled) = whole.known pass (Taker c t s) at in
     let each : (m : ℕ) → lots_of m t ++ lots_of m items ≡ sent m = λ m. ap (λ l. lots_of m l ++ lots_of m items) mine.2 ∙ whole.each m in
@@ -56,8 +56,8 @@ tells_taker pass c t s items views (reader, count, taken, settled, seat, sent, w
       of_lanes = all_known c t (λ n past. left_nil (lots_of n t) (lots_of n items) (each n ∙ (whole.none_yet n (omega (arith, mine.1))).1));
     }
 
-pub learns_as : (pass : ℕ) (v : Knowledge) → IsTaker v → Learns Kept pass v (Tells v)
-learns_as pass v is = subst (λ (y : Knowledge). Learns Kept pass y (Tells y)) (sym is) (tells_taker pass (count_of v) (taken_of v) (settled_of v))
+pub learns_as : (pass : ℕ) (v : Knowledge) → IsTaker v → Learns Kept pass v (TakerLearns v)
+learns_as pass v is = subst (λ (y : Knowledge). Learns Kept pass y (TakerLearns y)) (sym is) (tells_taker pass (count_of v) (taken_of v) (settled_of v))
 
 -- a lane's lot comes onto the belt
 pub puts_as : (cap pass : ℕ) (v : Knowledge) (parcel : Parcel) → IsWhole parcel.lot → IsLane parcel.lane v → Pushes Kept cap pass v parcel (λ w. w ≡ Lane parcel.lane (put_of v ++ parcel.lot ∷ []))
@@ -109,15 +109,15 @@ pub begins_empty : (n : ℕ) (v : Knowledge) → v ≡ Lane n [] → IsLane n v 
 begins_empty n v e = subst (λ (y : Knowledge). IsLane n y × (put_of y ≡ [])) (sym e) (refl, refl)
 
 -- where the belt was empty, that is what the taker was told
-pub was_empty : (v : Knowledge) → Held 0 (Tells v) → Tells v []
+pub was_empty : (v : Knowledge) → Held 0 (TakerLearns v) → TakerLearns v []
 was_empty v held = empty held.0 held.1 held.2
   where
-    empty : (items : List Parcel) → length items ≡ 0 → Tells v items → Tells v []
+    empty : (items : List Parcel) → length items ≡ 0 → TakerLearns v items → TakerLearns v []
     empty [] none_left told = told
     empty (x ∷ xs) none_left told = absurd (omega arith)
 
 -- what is at the front is of whole packets
-pub front_whole : (v : Knowledge) (parcel : Parcel) (items : List Parcel) → Tells v (parcel ∷ items) → IsWhole parcel.lot
+pub front_whole : (v : Knowledge) (parcel : Parcel) (items : List Parcel) → TakerLearns v (parcel ∷ items) → IsWhole parcel.lot
 front_whole v parcel items told = whole_at told.stood
   where
     whole_at : Stood v (parcel ∷ items) → IsWhole parcel.lot
@@ -128,12 +128,12 @@ parts_of : (taken items : List Parcel) (settled : List Settled) → AllByRecursi
 parts_of taken items [] accounts = tt
 parts_of taken items (s ∷ settled) accounts = ((lots_of s.lane items, accounts.0), parts_of taken items settled accounts.1)
 
-pub first_parts : (v : Knowledge) (items : List Parcel) → Tells v items → FirstPartsTaken v
+pub first_parts : (v : Knowledge) (items : List Parcel) → TakerLearns v items → FirstPartsTaken v
 first_parts v items told = parts_of (taken_of v) items (settled_of v) told.accounts
 
 all_of : (taken : List Parcel) (settled : List Settled) → AllByRecursion (λ s. lots_of s.lane taken ++ [] ≡ s.list) settled → AllByRecursion (λ s. lots_of s.lane taken ≡ s.list) settled
 all_of taken [] accounts = tt
 all_of taken (s ∷ settled) accounts = (sym (append-nil (lots_of s.lane taken)) ∙ accounts.0, all_of taken settled accounts.1)
 
-pub all_taken : (v : Knowledge) → Tells v [] → AllTaken v
+pub all_taken : (v : Knowledge) → TakerLearns v [] → AllTaken v
 all_taken v told = all_of (taken_of v) (settled_of v) told.accounts

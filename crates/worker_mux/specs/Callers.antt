@@ -17,24 +17,24 @@ use Rattle.worker_mux.specs.Passes.{lane_count, lots_taken, settled_lanes, IsTak
 use Rattle.worker_mux.specs.declared.belt.Belt.{Belt}
 use Rattle.worker_mux.specs.declared.caller.Caller.{Caller}
 use Rattle.worker_mux.specs.declared.knowledge.Parcel.{Parcel}
-use Rattle.worker_mux.specs.declared.pass.Taker.{Taker}
+use Rattle.worker_mux.specs.declared.belt_passes.Taker.{Taker}
 
 -- what is heard of a lot: its packets as one piece, and nothing of a lane's end
-abbrev pub piece_of : Lot → List (List ℕ)
-piece_of (Packet packet) = packet ∷ []
-piece_of (End how) = []
+abbrev pub pieces_of_lot : Lot → List (List ℕ)
+pieces_of_lot (Packet packet) = packet ∷ []
+pieces_of_lot (End how) = []
 
 -- what is heard of all lots that were taken, in the order in which they were taken
-abbrev pub pieces_of : List Parcel → List (List ℕ)
-pieces_of [] = []
-pieces_of (p ∷ ps) = piece_of p.lot ++ pieces_of ps
+abbrev pub pieces_of_lots : List Parcel → List (List ℕ)
+pieces_of_lots [] = []
+pieces_of_lots (p ∷ ps) = pieces_of_lot p.lot ++ pieces_of_lots ps
 
 -- Its taker is this belt's. Until the lanes are stopped no lane's memory has run out, and what was taken was heard since the
 -- listener was what it was begun with.
 pub record IsCaller {L : Type 0} (hears : L → L → List (List ℕ) → Type 0) (belt : Belt) (caller : Caller L) : Type 0 where
   pub taker : IsTakerFor belt caller.taker
   pub well : caller.stopped ≡ false → AllByRecursion (λ p. p.lot ≡ End NoMemory → ⊥) (lots_taken caller.taker)
-  pub heard : caller.stopped ≡ false → hears caller.begun.value caller.listener (pieces_of (lots_taken caller.taker))
+  pub heard : caller.stopped ≡ false → hears caller.begun.value caller.listener (pieces_of_lots (lots_taken caller.taker))
 
 -- a taker that has taken nothing, and knows of no lane that is settled
 pub record IsNewTaker (belt : Belt) (taker : Taker) : Type 0 where
@@ -48,9 +48,9 @@ packet_of (Packet packet) = packet
 packet_of (End how) = []
 
 -- what is recorded of all lots that were taken, as the bytes that stand behind the run
-abbrev pub recorded : List Parcel → List ℕ
-recorded [] = []
-recorded (p ∷ ps) = packet_of p.lot ++ recorded ps
+abbrev pub bytes_recorded : List Parcel → List ℕ
+bytes_recorded [] = []
+bytes_recorded (p ∷ ps) = packet_of p.lot ++ bytes_recorded ps
 
 -- how many calls of the folder it takes to add these bytes: one, and none where there are none
 abbrev pub calls_for : List ℕ → ℕ
@@ -87,7 +87,7 @@ pub record KeepsTape (old new : Tape) : Type 0 where
 
 -- with no fault, what was taken has been added, from `start` on
 abbrev pub HasAdded : {L : Type 0} → Option Folder → Caller L → Tape → Type 0
-HasAdded start caller t = t.fault ≡ None → Goes start t.folder.told (Grown (recorded (lots_taken caller.taker)))
+HasAdded start caller t = t.fault ≡ None → Goes start t.folder.told (Grown (bytes_recorded (lots_taken caller.taker)))
 
 -- from so many calls of the folder on, what was taken took no more than it takes to add each lot of it
 abbrev pub IsCounted : {L : Type 0} → (first : ℕ) → Caller L → Tape → Type 0

@@ -10,7 +10,7 @@ use Rattle.packet_codec.specs.declared.event.Event.{Event}
 use Rattle.packet_codec.specs.Canonical.{canonical, IsEvent, Fits}
 use Rattle.packet_codec.specs.Lanes.{IsMerge, IsMergeOfTold}
 use Rattle.worker_lane.specs.Endings.{ending_of}
-use Rattle.worker_lane.specs.Lost.{named_ids, AreTexts}
+use Rattle.worker_lane.specs.Lost.{named_ids, AreShortIds}
 use Rattle.worker_lane.specs.Rest.{stream_events, last_events, lots_asked}
 use Rattle.worker_lane.specs.declared.lot.Lot.{Lot}
 
@@ -40,7 +40,7 @@ ids_at asked place = slice_index_or asked place []
 
 -- each of them is a text
 abbrev pub AreAllTexts : (asked : List (List (List ℕ))) → Type 0
-AreAllTexts asked = AllByRecursion AreTexts asked
+AreAllTexts asked = AllByRecursion AreShortIds asked
 
 -- What lanes over these children have to give, where it is told: the first one is of this number, and each is one higher.
 -- Their jobs name these ids.
@@ -53,9 +53,9 @@ abbrev pub lots_from : (lane : ℕ) → List (Option Output) → List (Option (L
 lots_from lane told = lots_asked_from lane [] told
 
 -- their events, where they are told
-abbrev pub events_from : (lane : ℕ) → (asked : List (List (List ℕ))) → List (Option Output) → List (Option (List Event))
-events_from lane asked [] = []
-events_from lane asked (told ∷ others) = option_map (events_asked lane (first_ids asked)) told ∷ events_from (suc lane) (other_ids asked) others
+abbrev pub events_of_outputs : (lane : ℕ) → (asked : List (List (List ℕ))) → List (Option Output) → List (Option (List Event))
+events_of_outputs lane asked [] = []
+events_of_outputs lane asked (told ∷ others) = option_map (events_asked lane (first_ids asked)) told ∷ events_of_outputs (suc lane) (other_ids asked) others
 
 -- the same where all are told
 abbrev pub lists_asked : (lane : ℕ) → (asked : List (List (List ℕ))) → List Output → List (List Event)
@@ -73,7 +73,7 @@ pub record AddsTold (asked : List (List (List ℕ))) (told : List (Option Output
   pub added : Goes old new (Grown (flat_map canonical events))
   pub are_events : All IsEvent events
   pub fit : All Fits events
-  pub merge : IsMergeOfTold events (events_from 0 asked told)
+  pub merge : IsMergeOfTold events (events_of_outputs 0 asked told)
 
 -- the same where all are told
 pub record AddsOutputs (asked : List (List (List ℕ))) (outputs : List Output) (old new : Option Folder) : Type 0 where

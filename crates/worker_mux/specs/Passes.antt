@@ -5,9 +5,9 @@ use Rattle.worker_lane.specs.declared.lot.Lot.{Lot}
 use Rattle.worker_mux.specs.declared.belt.Belt.{Belt}
 use Rattle.worker_mux.specs.declared.knowledge.Parcel.{Parcel}
 use Rattle.worker_mux.specs.declared.knowledge.Settled.{Settled}
-use Rattle.worker_mux.specs.declared.pass.LanePass.{LanePass}
-use Rattle.worker_mux.specs.declared.pass.Taker.{Taker}
-use Rattle.worker_mux.specs.Rule.{put_of, taken_of, settled_of, count_of, IsLane, IsTaker, Tells, FirstPartsTaken, AllTaken, OfLanes}
+use Rattle.worker_mux.specs.declared.belt_passes.LanePass.{LanePass}
+use Rattle.worker_mux.specs.declared.belt_passes.Taker.{Taker}
+use Rattle.worker_mux.specs.Rule.{put_of, taken_of, settled_of, count_of, IsLane, IsTaker, TakerLearns, FirstPartsTaken, AllTaken, OfLanes}
 
 -- how many lots the belt may hold
 abbrev pub room_of : Belt → ℕ
@@ -49,16 +49,16 @@ pub record IsFresh (belt : Belt) (pass : LanePass) : Type 0 where
   pub empty : lots_put pass ≡ []
 
 -- what the table of settled lanes has of a pass
-abbrev pub entry_of : LanePass → Settled
-entry_of pass = record { lane = pass.number; list = lots_put pass }
+abbrev pub settled_pass : LanePass → Settled
+settled_pass pass = record { lane = pass.number; list = lots_put pass }
 
 -- at a step of the call the lot left the belt's front
 abbrev pub LeftFront : Taker → Parcel → Taker → Type 0
-LeftFront before parcel after = (items : List Parcel) × Tells (view before.pass) (parcel ∷ items) × Tells (view after.pass) items
+LeftFront before parcel after = (items : List Parcel) × TakerLearns (view before.pass) (parcel ∷ items) × TakerLearns (view after.pass) items
 
 -- at a step of the call the rule held, and the taker knew what it shows
 abbrev pub WasAtStep : Taker → Type 0
-WasAtStep taker = (items : List Parcel) × Tells (view taker.pass) items
+WasAtStep taker = (items : List Parcel) × TakerLearns (view taker.pass) items
 
 -- of each settled lane, what was taken is a first part of its list
 abbrev pub HasFirstParts : Taker → Type 0

@@ -6,7 +6,7 @@
 --     an end is put        the same
 --     a put is refused     nothing changes
 --     a lot is taken       the front goes to the end of what was taken (WasTaken)
---     none is taken        nothing changes, and the belt is empty (Tells)
+--     none is taken        nothing changes, and the belt is empty (TakerLearns)
 --     a pass is settled    it is spent, and its list goes into the taker's table (with_settled)
 use Rattle.std.specs.Prelude.{◌≡◌, ℕ, ◌+◌, ◌<◌, ◌≤◌, List, [], ◌∷◌, ◌++◌, Contains, ◌⊎◌, if◌then◌else◌, ◌==◌}
 use Rattle.std.specs.List.{AllByRecursion}
@@ -134,7 +134,7 @@ abbrev pub OfLanes : Knowledge → Type 0
 OfLanes v = AllByRecursion (λ p. p.lane < count_of v) (taken_of v)
 
 -- what the taker, which knew v, learns of a step at which the belt held these lots
-pub record Tells (v : Knowledge) (items : List Parcel) : Type 0 where
+pub record TakerLearns (v : Knowledge) (items : List Parcel) : Type 0 where
   pub stood : Stood v items
   pub accounts : Accounts v items
   pub of_lanes : OfLanes v
@@ -147,4 +147,4 @@ WasAdded before parcel after = after ≡ Lane parcel.lane (put_of before ++ parc
 abbrev pub WasTaken : Knowledge → Parcel → Knowledge → Type 0
 WasTaken before parcel after =
     (after ≡ Taker (count_of before) (taken_of before ++ parcel ∷ []) (settled_of before))
-    × ((items : List Parcel) × Tells before (parcel ∷ items) × Tells after items)
+    × ((items : List Parcel) × TakerLearns before (parcel ∷ items) × TakerLearns after items)

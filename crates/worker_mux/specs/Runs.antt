@@ -13,25 +13,25 @@ use Rattle.worker_lane.specs.declared.lane.Lane.{Lane}
 use Rattle.worker_lane.specs.declared.lot.Ending.TheVariants.{NoMemory}
 use Rattle.worker_lane.specs.declared.lot.Lot.{Lot}
 use Rattle.worker_lane.specs.declared.lot.Lot.TheVariants.{Packet, End}
-use Rattle.worker_mux.specs.Callers.{recorded, pieces_of, calls_of, IsNewTaker, IsOpen, Tape}
+use Rattle.worker_mux.specs.Callers.{bytes_recorded, pieces_of_lots, calls_of, IsNewTaker, IsOpen, Tape}
 use Rattle.worker_mux.specs.Passes.{number_of}
 use Rattle.worker_mux.specs.Rule.{lots_of}
 use Rattle.worker_mux.specs.Works.{bytes_left, whole, Pairs, IsEntryOf, IsReady}
 use Rattle.worker_mux.specs.declared.belt.Belt.{Belt}
 use Rattle.worker_mux.specs.declared.knowledge.Parcel.{Parcel}
 use Rattle.worker_mux.specs.declared.knowledge.Settled.{Settled}
-use Rattle.worker_mux.specs.declared.pass.Taker.{Taker}
+use Rattle.worker_mux.specs.declared.belt_passes.Taker.{Taker}
 use Rattle.worker_mux.specs.declared.work.Work.{Work}
 
 -- the packets among some lots
-abbrev pub packets_of : List Lot → List (List ℕ)
-packets_of [] = []
-packets_of (Packet packet ∷ lots) = packet ∷ packets_of lots
-packets_of (End how ∷ lots) = packets_of lots
+abbrev pub lot_packets : List Lot → List (List ℕ)
+lot_packets [] = []
+lot_packets (Packet packet ∷ lots) = packet ∷ lot_packets lots
+lot_packets (End how ∷ lots) = lot_packets lots
 
 -- each of the events has a packet, and these packets are those of the lots
-pub record ArePacketsOf (lots : List Lot) (events : List Event) : Type 0 where
-  pub packets : packets_of lots ≡ map canonical events
+pub record AreEventsOfLots (lots : List Lot) (events : List Event) : Type 0 where
+  pub packets : lot_packets lots ≡ map canonical events
   pub are_events : All IsEvent events
   pub fit : All Fits events
 
@@ -39,7 +39,7 @@ pub record ArePacketsOf (lots : List Lot) (events : List Event) : Type 0 where
 abbrev pub AreEventsOf : Option (List Lot) → Option (List Event) → Type 0
 AreEventsOf lots None = ⊤
 AreEventsOf None (Some events) = ⊥
-AreEventsOf (Some lots) (Some events) = ArePacketsOf lots events
+AreEventsOf (Some lots) (Some events) = AreEventsOfLots lots events
 
 -- the same of each lane
 pub record HaveEvents (rests : List (Option (List Lot))) (lists : List (Option (List Event))) : Type 0 where
@@ -66,7 +66,7 @@ pub record HearsMerge (hears : List (List ℕ) → Type 0) (rests : List (Option
   pub few : new.clock ≤ old.clock + length merge.events
 
 -- nothing was taken, each work is ready, there is a flag for each, and there is a run to add to
-pub record IsBegun {C : Type 0} (belt : Belt) (taker : Taker) (works : List (Work C)) (flags : ℕ) (t : Tape) : Type 0 where
+pub record IsRunBegun {C : Type 0} (belt : Belt) (taker : Taker) (works : List (Work C)) (flags : ℕ) (t : Tape) : Type 0 where
   pub taker_new : IsNewTaker belt taker
   pub ready : AllByRecursion (IsReady belt) works
   pub enough : length works ≤ flags
@@ -83,11 +83,11 @@ module _ {C : Type 0} (seen : C → Seen Output) where
 
   -- With no lack of memory: what was taken was heard and has been added, by at most one call of the folder for each lot, and
   -- the settled table, which has each work, accounts for it.
-  pub record IsRecorded (hears : List (List ℕ) → Type 0) (count : ℕ) (works : List (Work C)) (old new : Tape) : Type 0 where
+  pub record IsRunRecorded (hears : List (List ℕ) → Type 0) (count : ℕ) (works : List (Work C)) (old new : Tape) : Type 0 where
     pub taken : List Parcel
     pub table : List Settled
-    pub heard : hears (pieces_of taken)
-    pub added : Goes old.folder.told new.folder.told (Grown (recorded taken))
+    pub heard : hears (pieces_of_lots taken)
+    pub added : Goes old.folder.told new.folder.told (Grown (bytes_recorded taken))
     pub few : new.clock ≤ old.clock + calls_of taken
     pub entries : Pairs (IsEntryOf seen) works table
     pub accounts : AllByRecursion (λ s. lots_of s.lane taken ≡ s.list) table

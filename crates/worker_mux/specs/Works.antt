@@ -17,15 +17,15 @@ use Rattle.worker_mux.specs.Callers.{packet_of}
 use Rattle.worker_mux.specs.Passes.{number_of, lots_put, IsPassFor}
 use Rattle.worker_mux.specs.declared.belt.Belt.{Belt}
 use Rattle.worker_mux.specs.declared.knowledge.Settled.{Settled}
-use Rattle.worker_mux.specs.declared.pass.LanePass.{LanePass}
+use Rattle.worker_mux.specs.declared.belt_passes.LanePass.{LanePass}
 use Rattle.worker_mux.specs.declared.work.Work.{Work}
 use Rattle.worker_mux.specs.declared.work.Outcome.{Outcome}
 use Rattle.worker_mux.specs.declared.work.Outcome.TheVariants.{Kept, Put, GivenUp}
 
 -- packets have bytes
-abbrev pub HasBytes : Lot → Type 0
-HasBytes (Packet packets) = AreBytes packets
-HasBytes (End how) = ⊤
+abbrev pub IsLotOfBytes : Lot → Type 0
+IsLotOfBytes (Packet packets) = AreBytes packets
+IsLotOfBytes (End how) = ⊤
 
 -- these are the packets of events under the lane
 pub record ArePacketsUnder (lane : ℕ) (packets : List ℕ) : Type 0 where
@@ -40,11 +40,11 @@ AreOwn lane (End how) = ⊤
 
 -- the packets of a lot are under the lane, and each number in them is a byte
 abbrev pub IsOwn : (lane : ℕ) → Lot → Type 0
-IsOwn lane lot = AreOwn lane lot × HasBytes lot
+IsOwn lane lot = AreOwn lane lot × IsLotOfBytes lot
 
 -- the packets among some lots, joined
-abbrev pub bytes_of : List Lot → List ℕ
-bytes_of lots = flat_map packet_of lots
+abbrev pub joined_packets : List Lot → List ℕ
+joined_packets lots = flat_map packet_of lots
 
 -- no lot says that there was no memory
 abbrev pub AllWell : List Lot → Type 0
@@ -69,8 +69,8 @@ module _ {C : Type 0} where
   IsReadyOutcome belt (GivenUp pass) = IsOwnPass belt pass
 
   -- the lots that the lane gave: those that were put, and the one that was handed back
-  abbrev pub given : Work C → List Lot
-  given work = lots_put work.pass ++ option_to_list work.kept
+  abbrev pub lots_given : Work C → List Lot
+  lots_given work = lots_put work.pass ++ option_to_list work.kept
 
 -- R holds of what stands at the same place in two lists, which are as long
 abbrev pub Pairs : {X Y : Type 0} → (X → Y → Type 0) → List X → List Y → Type 0
@@ -83,27 +83,27 @@ module _ {C : Type 0} (seen : C → Seen Output) where
   -- The packets of a lane are joined to larger lots as they come, so what is told of a work are their bytes.
   -- The bytes of what the lane has still to give, where its child tells.
   abbrev pub bytes_left : Lane C → Option (List ℕ)
-  bytes_left lane = option_map bytes_of (rest seen lane)
+  bytes_left lane = option_map joined_packets (rest seen lane)
 
   -- those of what has not been put: the lot that was handed back, and what the lane has still to give
   abbrev pub left : Work C → Option (List ℕ)
-  left work = option_map (λ l. bytes_of (option_to_list work.kept) ++ l) (bytes_left work.lane)
+  left work = option_map (λ l. joined_packets (option_to_list work.kept) ++ l) (bytes_left work.lane)
 
   -- those of all lots of a work: what was put, and what was not
   abbrev pub whole : Work C → Option (List ℕ)
-  whole work = option_map (λ l. bytes_of (lots_put work.pass) ++ l) (left work)
+  whole work = option_map (λ l. joined_packets (lots_put work.pass) ++ l) (left work)
 
   -- all packets of a work are put, unless memory ran out in its lane
   pub record IsPut (work : Work C) (pass : LanePass) : Type 0 where
     pub number : number_of pass ≡ number_of work.pass
-    pub well : AllWell (lots_put pass) → AllWell (given work)
-    pub all : AllWell (lots_put pass) → IfSome (whole work) (λ l. bytes_of (lots_put pass) ≡ l)
+    pub well : AllWell (lots_put pass) → AllWell (lots_given work)
+    pub all : AllWell (lots_put pass) → IfSome (whole work) (λ l. joined_packets (lots_put pass) ≡ l)
 
   -- the work goes on: unless memory ran out in its lane, its packets are what they were
   pub record KeepsWork (before after : Work C) : Type 0 where
     pub number : number_of after.pass ≡ number_of before.pass
-    pub well : AllWell (given after) → AllWell (given before)
-    pub same : AllWell (given after) → whole after ≡ whole before
+    pub well : AllWell (lots_given after) → AllWell (lots_given before)
+    pub same : AllWell (lots_given after) → whole after ≡ whole before
 
   -- what driving leads to
   abbrev pub Drives : Work C → Outcome C → Type 0
@@ -120,7 +120,7 @@ module _ {C : Type 0} (seen : C → Seen Output) where
   pub record IsEntryOf (work : Work C) (entry : Settled) : Type 0 where
     pub lane : entry.lane ≡ number_of work.pass
     pub own : AllByRecursion (IsOwn entry.lane) entry.list
-    pub list : AllWell entry.list → IfSome (whole work) (λ l. bytes_of entry.list ≡ l)
+    pub list : AllWell entry.list → IfSome (whole work) (λ l. joined_packets entry.list ≡ l)
 
   -- The table is one entry longer for each work, in order. Where the lanes were stopped, nothing is said of them.
   abbrev pub Settles : Bool → List (Work C) → List Settled → List Settled → Type 0

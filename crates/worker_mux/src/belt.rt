@@ -6,10 +6,10 @@ ghost use Rattle.crossbeam_queue.specs.Passes.{view};
 ghost use Rattle.worker_mux.specs.declared.knowledge.Knowledge.TheVariants.{Taker as Seen};
 ghost use Rattle.worker_mux.specs.Packets.{IsWhole};
 ghost use Rattle.worker_mux.specs.Rule.{WasTaken};
-ghost use Rattle.worker_mux.specs.Passes.{room_of, number_of, lots_put, lane_count, lots_taken, settled_lanes, IsPassFor, IsTakerFor, IsFresh, entry_of, LeftFront, WasAtStep, HasFirstParts, HasAll, IsOfLanes};
+ghost use Rattle.worker_mux.specs.Passes.{room_of, number_of, lots_put, lane_count, lots_taken, settled_lanes, IsPassFor, IsTakerFor, IsFresh, settled_pass, LeftFront, WasAtStep, HasFirstParts, HasAll, IsOfLanes};
 
+use crate::belt_passes::{LanePass, Taker};
 use crate::knowledge::Parcel;
-use crate::pass::{LanePass, Taker};
 use crate::rule::{Lanes, Line, Puts, Takes};
 use std::alloc::Global;
 use std::sync::Wait;
@@ -108,7 +108,7 @@ impl Belt {
         ensures made_here { IsTakerFor self.now taker.new }
         ensures lanes { lane_count taker.new ≡ lane_count taker.old }
         ensures taken { lots_taken taker.new ≡ lots_taken taker.old }
-        ensures settled { settled_lanes taker.new ≡ entry_of pass ∷ settled_lanes taker.old }
+        ensures settled { settled_lanes taker.new ≡ settled_pass pass ∷ settled_lanes taker.old }
         ensures told { WasAtStep taker.new }
         ensures first_parts { HasFirstParts taker.new }
         ensures of_lanes { IsOfLanes taker.new }
@@ -137,7 +137,7 @@ impl Belt {
         requires taker { IsTakerFor self.now taker.old }
         requires pass { IsPassFor self.now pass }
         ensures taker { IsTakerFor self.now taker.new }
-        ensures settled { view taker.new.pass ≡ Seen (lane_count taker.old) (lots_taken taker.old) (entry_of pass ∷ settled_lanes taker.old) }
+        ensures settled { view taker.new.pass ≡ Seen (lane_count taker.old) (lots_taken taker.old) (settled_pass pass ∷ settled_lanes taker.old) }
     {
         let LanePass { number: _, pass } = pass;
         self.queue.absorb::<Lanes>(&mut taker.pass, pass);

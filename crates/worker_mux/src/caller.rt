@@ -6,15 +6,15 @@ ghost use Rattle.edge_io.specs.Steps.{Goes, Grown};
 ghost use Rattle.packet_codec.specs.Packets.{ArePackets};
 ghost use Rattle.worker_lane.specs.declared.lot.Lot.TheVariants.{End};
 ghost use Rattle.worker_lane.specs.declared.lot.Ending.TheVariants.{NoMemory as without_memory};
-ghost use Rattle.worker_mux.specs.Callers.{IsCaller, GoesOn, KeepsTape, IsOpen, StandsBy, Tape, WasHanded, calls_for, packet_of, piece_of, tape};
+ghost use Rattle.worker_mux.specs.Callers.{IsCaller, GoesOn, KeepsTape, IsOpen, StandsBy, Tape, WasHanded, calls_for, packet_of, pieces_of_lot, tape};
 ghost use Rattle.worker_mux.specs.Packets.{IsWhole};
-ghost use Rattle.worker_mux.specs.Passes.{number_of, settled_lanes, entry_of, HasAll, IsOfLanes};
+ghost use Rattle.worker_mux.specs.Passes.{number_of, settled_lanes, settled_pass, HasAll, IsOfLanes};
 ghost use Rattle.worker_mux.specs.Works.{IsOwnPass, IsPut, Drives, IsReadyOutcome};
 
+use crate::belt_passes::{LanePass, Taker};
 use crate::listener::Listener;
-use crate::pass::{LanePass, Taker};
-use crate::pen::Pen;
-use crate::work::{Outcome, Shared, Work, drive};
+use crate::run_appender::RunAppender;
+use crate::work::{Outcome, Shared, Work, drive_work};
 use edge_io::{Child, Shelf};
 use std::snapshot::Snapshot;
 use std::sync::Wait;
@@ -47,7 +47,7 @@ impl<L: Listener> Caller<L> {
     }
 
     // Adds packets, and lets them be heard. Where they could not be added nobody hears them, and all lanes are told to stop.
-    fn add<H: Shelf>(&mut self, shared: &Shared, pen: &mut Pen<'_, H>, packet: &[u8])
+    fn add<H: Shelf>(&mut self, shared: &Shared, pen: &mut RunAppender<'_, H>, packet: &[u8])
         requires is_open { IsOpen (tape pen.old.fault (H.seen pen.old.shelf.now) (H.clock pen.old.shelf.now)) }
         requires packets { ArePackets packet.now }
         requires going { self.old.stopped ≡ false }
@@ -73,7 +73,7 @@ impl<L: Listener> Caller<L> {
     }
 
     // Adds a lot. At the end of a lane whose memory ran out, all lanes are told to stop, as where a lot could not be added.
-    fn record<H: Shelf>(&mut self, shared: &Shared, pen: &mut Pen<'_, H>, lot: Lot)
+    fn record<H: Shelf>(&mut self, shared: &Shared, pen: &mut RunAppender<'_, H>, lot: Lot)
         requires is_open { IsOpen (tape pen.old.fault (H.seen pen.old.shelf.now) (H.clock pen.old.shelf.now)) }
         requires packets { IsWhole lot }
         requires going { self.old.stopped ≡ false }
@@ -81,7 +81,7 @@ impl<L: Listener> Caller<L> {
         ensures begun { self.new.begun ≡ self.old.begun }
         ensures going { self.new.stopped ≡ false → self.old.stopped ≡ false }
         ensures well { self.new.stopped ≡ false → lot ≡ End without_memory → ⊥ }
-        ensures heard { (pieces : List (List ℕ)) → L.heard self.old.begun.value self.old.listener pieces → self.new.stopped ≡ false → L.heard self.new.begun.value self.new.listener (pieces ++ piece_of lot) }
+        ensures heard { (pieces : List (List ℕ)) → L.heard self.old.begun.value self.old.listener pieces → self.new.stopped ≡ false → L.heard self.new.begun.value self.new.listener (pieces ++ pieces_of_lot lot) }
         ensures loan { pen.new.shelf.ghost_name ≡ pen.old.shelf.ghost_name }
         ensures keeps { KeepsTape (tape pen.old.fault (H.seen pen.old.shelf.now) (H.clock pen.old.shelf.now)) (tape pen.new.fault (H.seen pen.new.shelf.now) (H.clock pen.new.shelf.now)) }
         ensures added { pen.new.fault ≡ None → Goes (H.seen pen.old.shelf.now).told (H.seen pen.new.shelf.now).told (Grown (packet_of lot)) }
@@ -101,7 +101,7 @@ impl<L: Listener> Caller<L> {
         &mut self,
         rt: &R,
         shared: &Shared,
-        pen: &mut Pen<'_, H>,
+        pen: &mut RunAppender<'_, H>,
     ) -> bool
         requires ready { IsCaller L.heard shared.now.belt self.old }
         requires is_open { IsOpen (tape pen.old.fault (H.seen pen.old.shelf.now) (H.clock pen.old.shelf.now)) }
@@ -131,7 +131,7 @@ impl<L: Listener> Caller<L> {
         shared: &Shared,
         flag: &AtomicBool,
         mut outcome: Outcome<C>,
-        pen: &mut Pen<'_, H>,
+        pen: &mut RunAppender<'_, H>,
     ) -> LanePass
         requires ready { IsCaller L.heard shared.now.belt self.old × IsReadyOutcome shared.now.belt outcome }
         requires is_open { IsOpen (tape pen.old.fault (H.seen pen.old.shelf.now) (H.clock pen.old.shelf.now)) }
@@ -152,7 +152,7 @@ impl<L: Listener> Caller<L> {
                 }
                 Outcome::Kept(work) => {
                     self.take_one(rt, shared, pen);
-                    outcome = drive(rt, shared, flag, work);
+                    outcome = drive_work(rt, shared, flag, work);
                 }
             }
         }
@@ -165,7 +165,7 @@ impl<L: Listener> Caller<L> {
         ensures ready { IsCaller L.heard shared.now.belt self.new }
         ensures goes { (now : Tape) → GoesOn L.heard L.keeps self.old self.new now now }
         ensures stopped { self.new.stopped ≡ self.old.stopped }
-        ensures settled { settled_lanes self.new.taker ≡ entry_of pass ∷ settled_lanes self.old.taker }
+        ensures settled { settled_lanes self.new.taker ≡ settled_pass pass ∷ settled_lanes self.old.taker }
     {
         shared.belt.settle(rt, &mut self.taker, pass);
     }
@@ -175,7 +175,7 @@ impl<L: Listener> Caller<L> {
         &mut self,
         rt: &R,
         shared: &Shared,
-        pen: &mut Pen<'_, H>,
+        pen: &mut RunAppender<'_, H>,
     )
         requires ready { IsCaller L.heard shared.now.belt self.old }
         requires is_open { IsOpen (tape pen.old.fault (H.seen pen.old.shelf.now) (H.clock pen.old.shelf.now)) }
@@ -188,7 +188,7 @@ impl<L: Listener> Caller<L> {
             if self.running == 0 || self.stopped {
                 return;
             }
-            let seen = shared.gate.puts();
+            let seen = shared.gate.puts_so_far();
             if !self.take_one(rt, shared, pen) {
                 shared.gate.wait_for_put(rt, seen);
             }
@@ -201,7 +201,7 @@ impl<L: Listener> Caller<L> {
         &mut self,
         rt: &R,
         shared: &Shared,
-        pen: &mut Pen<'_, H>,
+        pen: &mut RunAppender<'_, H>,
     )
         requires ready { IsCaller L.heard shared.now.belt self.old }
         requires is_open { IsOpen (tape pen.old.fault (H.seen pen.old.shelf.now) (H.clock pen.old.shelf.now)) }

@@ -9,32 +9,32 @@
 //! before, where it does not say otherwise. What it did outside by then stands.
 //!
 //! - `belt`: the queue, and its calls
-//! - `pass`: who puts and who takes
+//! - `belt_passes`: who puts and who takes
 //! - `knowledge`: what clauses see of both; no value of it is made
 //! - `rule`: the steps of the belt, which keep its rule
 //! - `laws`: what the rule says of each step, and what is recorded of children that tell their output
 //! - `run`: all lanes, each read on a thread of its own, and recorded by the one that called
 //! - `listener`: who hears what is added, and what that keeps at each exit
-//! - `work`: the work of a lane; `caller`, `pen`: the part of the one that records; `levels`: a thread for each lane
-//! - `gate`: waiting for a move of the belt
+//! - `work`: the work of a lane; `caller`, `run_appender`: the part of the one that records; `lane_threads`: a thread for each lane
+//! - `belt_wait`: waiting for a move of the belt
 #![tactic(auto)]
 
 mod belt;
+mod belt_passes;
+mod belt_wait;
 mod caller;
-mod gate;
 mod knowledge;
+mod lane_threads;
 mod laws;
-mod levels;
 mod listener;
-mod pass;
-mod pen;
 mod rule;
 mod run;
+mod run_appender;
 mod work;
 
 pub use belt::Belt;
+pub use belt_passes::{LanePass, Taker};
 pub use knowledge::{Knowledge, Parcel, Settled};
 pub use laws::{lanes_stay_whole, outputs_are_merged};
 pub use listener::Listener;
-pub use pass::{LanePass, Taker};
 pub use run::{run_lanes, run_lanes_heard};

@@ -42,9 +42,9 @@ impl Outcome<Parcel, Knowledge> for Takes {
 }
 
 impl Lesson<Parcel, Knowledge> for Takes {
-    ghost use Rattle.worker_mux.specs.Rule.{Tells};
+    ghost use Rattle.worker_mux.specs.Rule.{TakerLearns};
 
-    ghost fact = { λ known items. Tells known items };
+    ghost fact = { λ known items. TakerLearns known items };
 }
 
 /// Lanes are made and settled.

@@ -9,16 +9,16 @@ ghost use Rattle.run_shelf.specs.Stores.{recorder_kinds, recorder_partial, recor
 ghost use Rattle.worker_lane.specs.Lanes.{rest, lane_number};
 ghost use Rattle.worker_mux.specs.Callers.{IsNewTaker, KeepsTape, IsOpen, HeardOrKept, WasHanded, tape};
 ghost use Rattle.worker_mux.specs.Passes.{number_of, lane_count, IsFresh};
-ghost use Rattle.worker_mux.specs.Runs.{share, first_share, IsBegun, IsRecorded, AddsMerge, HearsMerge};
+ghost use Rattle.worker_mux.specs.Runs.{share, first_share, IsRunBegun, IsRunRecorded, AddsMerge, HearsMerge};
 ghost use Rattle.worker_mux.specs.Works.{IsReady};
 
 use crate::belt::Belt;
+use crate::belt_passes::{LanePass, Taker};
+use crate::belt_wait::BeltWait;
 use crate::caller::Caller;
-use crate::gate::Gate;
-use crate::levels::level;
+use crate::lane_threads::run_level;
 use crate::listener::{Deaf, Listener};
-use crate::pass::{LanePass, Taker};
-use crate::pen::Pen;
+use crate::run_appender::RunAppender;
 use crate::work::{Shared, Work};
 use edge_io::{Child, Shelf};
 use run_shelf::{Recorder, ShelfCall};
@@ -124,7 +124,7 @@ pub fn run_lanes_heard<
     let works = begin(&belt, lanes, passes, works);
     let shared = Shared {
         belt,
-        gate: Gate::new(ROOM),
+        gate: BeltWait::new(ROOM),
         stop: AtomicBool::new(false),
     };
     let (listener, fault, done) = read_all(
@@ -237,7 +237,7 @@ fn read_all<R: Threads + Wait + Sync, C: Child + Send + Drop, H: Shelf, L: Liste
     requires is_open { IsOpen (tape fault (H.seen shelf.old) (H.clock shelf.old)) }
     requires nothing { L.heard listener listener [] }
     ensures keeps { KeepsTape (tape fault (H.seen shelf.old) (H.clock shelf.old)) (tape result.1 (H.seen shelf.new) (H.clock shelf.new)) }
-    ensures recorded { OnOk result.2 (result.1 ≡ None → IsRecorded C.seen (L.heard listener result.0) (lane_count taker) works.items (tape fault (H.seen shelf.old) (H.clock shelf.old)) (tape result.1 (H.seen shelf.new) (H.clock shelf.new))) }
+    ensures recorded { OnOk result.2 (result.1 ≡ None → IsRunRecorded C.seen (L.heard listener result.0) (lane_count taker) works.items (tape fault (H.seen shelf.old) (H.clock shelf.old)) (tape result.1 (H.seen shelf.new) (H.clock shelf.new))) }
     ensures handed { WasHanded (HeardOrKept L.heard L.keeps listener result.0) (H.seen shelf.old).told (tape result.1 (H.seen shelf.new) (H.clock shelf.new)) }
 {
     in_scope(rt, shared, flags, works, taker, listener, shelf, fault)
@@ -254,26 +254,26 @@ fn in_scope<R: Threads + Wait + Sync, C: Child + Send + Drop, H: Shelf, L: Liste
     shelf: &mut H,
     fault: Option<ShelfCall>,
 ) -> (L, Option<ShelfCall>, Result<(), NoMemory>)
-    requires begun { IsBegun shared.now.belt taker works.items (length flags.now) (tape fault (H.seen shelf.old) (H.clock shelf.old)) × L.heard listener listener [] }
+    requires begun { IsRunBegun shared.now.belt taker works.items (length flags.now) (tape fault (H.seen shelf.old) (H.clock shelf.old)) × L.heard listener listener [] }
     ensures keeps { KeepsTape (tape fault (H.seen shelf.old) (H.clock shelf.old)) (tape result.1 (H.seen shelf.new) (H.clock shelf.new)) }
-    ensures recorded { OnOk result.2 (result.1 ≡ None → IsRecorded C.seen (L.heard listener result.0) (lane_count taker) works.items (tape fault (H.seen shelf.old) (H.clock shelf.old)) (tape result.1 (H.seen shelf.new) (H.clock shelf.new))) }
+    ensures recorded { OnOk result.2 (result.1 ≡ None → IsRunRecorded C.seen (L.heard listener result.0) (lane_count taker) works.items (tape fault (H.seen shelf.old) (H.clock shelf.old)) (tape result.1 (H.seen shelf.new) (H.clock shelf.new))) }
     ensures handed { WasHanded (HeardOrKept L.heard L.keeps listener result.0) (H.seen shelf.old).told (tape result.1 (H.seen shelf.new) (H.clock shelf.new)) }
 {
     let (shelf, listener, fault, done) = thread::scope(
         thread::scope_env(),
         rt,
         move |scope| -> (&mut H, L, Option<ShelfCall>, Result<(), NoMemory>)
-            requires begun { IsBegun shared.now.belt taker works.items (length flags.now) (tape fault (H.seen shelf.now) (H.clock shelf.now)) × L.heard listener listener [] }
+            requires begun { IsRunBegun shared.now.belt taker works.items (length flags.now) (tape fault (H.seen shelf.now) (H.clock shelf.now)) × L.heard listener listener [] }
             ensures same { result.0.ghost_name ≡ shelf.entry.ghost_name }
             ensures keeps { KeepsTape (tape fault (H.seen shelf.entry.now) (H.clock shelf.entry.now)) (tape result.2 (H.seen result.0.now) (H.clock result.0.now)) }
-            ensures recorded { OnOk result.3 (result.2 ≡ None → IsRecorded C.seen (L.heard listener result.1) (lane_count taker) works.items (tape fault (H.seen shelf.entry.now) (H.clock shelf.entry.now)) (tape result.2 (H.seen result.0.now) (H.clock result.0.now))) }
+            ensures recorded { OnOk result.3 (result.2 ≡ None → IsRunRecorded C.seen (L.heard listener result.1) (lane_count taker) works.items (tape fault (H.seen shelf.entry.now) (H.clock shelf.entry.now)) (tape result.2 (H.seen result.0.now) (H.clock result.0.now))) }
             ensures handed { WasHanded (HeardOrKept L.heard L.keeps listener result.1) (H.seen shelf.entry.now).told (tape result.2 (H.seen result.0.now) (H.clock result.0.now)) }
         {
-            let mut pen = Pen { shelf, fault };
+            let mut pen = RunAppender { shelf, fault };
             let (listener, done) = all_levels(
                 rt, scope, shared, flags, works, taker, listener, &mut pen,
             );
-            let Pen { shelf, fault } = pen;
+            let RunAppender { shelf, fault } = pen;
             (shelf, listener, fault, done)
         },
     );
@@ -297,12 +297,12 @@ fn all_levels<
     mut works: VecDeque<Work<C>>,
     taker: Taker,
     listener: L,
-    pen: &mut Pen<'_, H>,
+    pen: &mut RunAppender<'_, H>,
 ) -> (L, Result<(), NoMemory>)
-    requires begun { IsBegun shared.now.belt taker works.items (length flags.now) (tape pen.old.fault (H.seen pen.old.shelf.now) (H.clock pen.old.shelf.now)) × L.heard listener listener [] }
+    requires begun { IsRunBegun shared.now.belt taker works.items (length flags.now) (tape pen.old.fault (H.seen pen.old.shelf.now) (H.clock pen.old.shelf.now)) × L.heard listener listener [] }
     ensures loan { pen.new.shelf.ghost_name ≡ pen.old.shelf.ghost_name }
     ensures keeps { KeepsTape (tape pen.old.fault (H.seen pen.old.shelf.now) (H.clock pen.old.shelf.now)) (tape pen.new.fault (H.seen pen.new.shelf.now) (H.clock pen.new.shelf.now)) }
-    ensures recorded { OnOk result.1 (pen.new.fault ≡ None → IsRecorded C.seen (L.heard listener result.0) (lane_count taker) works.items (tape pen.old.fault (H.seen pen.old.shelf.now) (H.clock pen.old.shelf.now)) (tape pen.new.fault (H.seen pen.new.shelf.now) (H.clock pen.new.shelf.now))) }
+    ensures recorded { OnOk result.1 (pen.new.fault ≡ None → IsRunRecorded C.seen (L.heard listener result.0) (lane_count taker) works.items (tape pen.old.fault (H.seen pen.old.shelf.now) (H.clock pen.old.shelf.now)) (tape pen.new.fault (H.seen pen.new.shelf.now) (H.clock pen.new.shelf.now))) }
     ensures handed { WasHanded (HeardOrKept L.heard L.keeps listener result.0) (H.seen pen.old.shelf.now).told (tape pen.new.fault (H.seen pen.new.shelf.now) (H.clock pen.new.shelf.now)) }
 {
     let mut caller = Caller {
@@ -312,7 +312,7 @@ fn all_levels<
         running: works.len(),
         stopped: false,
     };
-    level(rt, scope, shared, flags, &mut works, &mut caller, pen);
+    run_level(rt, scope, shared, flags, &mut works, &mut caller, pen);
     caller.take_rest(rt, shared, pen);
     let Caller {
         taker: _,

@@ -3,18 +3,18 @@
 ghost use Rattle.std.specs.Prelude.{◌≡◌, ◌⊎◌, ℕ, List, Option, Some, None, IfNone, IfSome};
 ghost use Rattle.std.specs.Option.{option_to_list};
 ghost use Rattle.packet_codec.specs.Grammar.{AreBytes};
-ghost use Rattle.worker_lane.specs.Rest.{Gives, IsOver};
+ghost use Rattle.worker_lane.specs.Rest.{GivesIfTold, IsOver};
 ghost use Rattle.worker_lane.specs.Endings.{IsLotOf};
 ghost use Rattle.worker_lane.specs.Lanes.{lane_number};
 ghost use Rattle.worker_lane.specs.declared.lot.Lot.TheVariants.{End};
 ghost use Rattle.worker_lane.specs.declared.lot.Ending.TheVariants.{NoMemory as without_memory};
 ghost use Rattle.worker_mux.specs.Passes.{number_of};
 ghost use Rattle.worker_mux.specs.Callers.{packet_of};
-ghost use Rattle.worker_mux.specs.Works.{ArePacketsUnder, AreOwn, HasBytes, IsOwn, bytes_of, bytes_left, left, IsReady, IsReadyOutcome, Drives};
+ghost use Rattle.worker_mux.specs.Works.{ArePacketsUnder, AreOwn, IsLotOfBytes, IsOwn, joined_packets, bytes_left, left, IsReady, IsReadyOutcome, Drives};
 
 use crate::belt::Belt;
-use crate::gate::Gate;
-use crate::pass::LanePass;
+use crate::belt_passes::LanePass;
+use crate::belt_wait::BeltWait;
 use edge_io::Child;
 use std::sync::Wait;
 use std::sync::atomic::{AtomicBool, Ordering};
@@ -25,7 +25,7 @@ use worker_lane::{Lane, Lot};
 #[derive(Drop)]
 pub(crate) struct Shared {
     pub(crate) belt: Belt,
-    pub(crate) gate: Gate,
+    pub(crate) gate: BeltWait,
     pub(crate) stop: AtomicBool,
 }
 
@@ -55,7 +55,7 @@ fn are_bytes(bytes: &[u8])
 
 // What holds of each lot: the type tells it.
 fn has_bytes(lot: &Lot)
-    ensures { HasBytes lot.now }
+    ensures { IsLotOfBytes lot.now }
 {
     match lot {
         Lot::Packet(packet) => are_bytes(packet.bytes()),
@@ -73,7 +73,7 @@ fn join_packets<C: Child>(lane: &mut Lane<C>, packets: &mut Vec<u8>)
     requires own { ArePacketsUnder (lane_number lane.old) packets.old.items }
     ensures number { lane_number lane.new ≡ lane_number lane.old }
     ensures own { ArePacketsUnder (lane_number lane.old) packets.new.items }
-    ensures gives { (start : Option (List ℕ)) → Gives start packets.old.items (bytes_left C.seen lane.old) → Gives start packets.new.items (bytes_left C.seen lane.new) }
+    ensures gives { (start : Option (List ℕ)) → GivesIfTold start packets.old.items (bytes_left C.seen lane.old) → GivesIfTold start packets.new.items (bytes_left C.seen lane.new) }
 {
     for _ in 0..MOST {
         if packets.len() >= FULL {
@@ -90,7 +90,7 @@ fn join<C: Child>(lane: &mut Lane<C>, lot: Lot) -> Lot
     requires under { IsLotOf (lane_number lane.old) lot }
     ensures number { lane_number lane.new ≡ lane_number lane.old }
     ensures own { AreOwn (lane_number lane.old) result }
-    ensures gives { (start : Option (List ℕ)) → Gives start (packet_of lot) (bytes_left C.seen lane.old) → Gives start (packet_of result) (bytes_left C.seen lane.new) }
+    ensures gives { (start : Option (List ℕ)) → GivesIfTold start (packet_of lot) (bytes_left C.seen lane.old) → GivesIfTold start (packet_of result) (bytes_left C.seen lane.new) }
     ensures lack { lot ≡ End without_memory → result ≡ End without_memory }
 {
     match lot {
@@ -110,7 +110,7 @@ impl<C: Child> Work<C> {
         ensures kept { self.new.kept ≡ self.old.kept }
         ensures number { lane_number self.new.lane ≡ lane_number self.old.lane }
         ensures own { IfSome result (IsOwn (lane_number self.old.lane)) }
-        ensures gives { (result ≡ Some (End without_memory)) ⊎ Gives (bytes_left C.seen self.old.lane) (bytes_of (option_to_list result)) (bytes_left C.seen self.new.lane) }
+        ensures gives { (result ≡ Some (End without_memory)) ⊎ GivesIfTold (bytes_left C.seen self.old.lane) (joined_packets (option_to_list result)) (bytes_left C.seen self.new.lane) }
         ensures none { IfNone result (IsOver (bytes_left C.seen self.new.lane)) }
     {
         let lot = self.lane.step()?;
@@ -127,7 +127,7 @@ impl<C: Child> Work<C> {
         ensures number { lane_number self.new.lane ≡ lane_number self.old.lane }
         ensures own { IfSome result (IsOwn (number_of self.old.pass)) }
         ensures kept { self.new.kept ≡ None }
-        ensures gives { (result ≡ Some (End without_memory)) ⊎ Gives (left C.seen self.old) (bytes_of (option_to_list result)) (left C.seen self.new) }
+        ensures gives { (result ≡ Some (End without_memory)) ⊎ GivesIfTold (left C.seen self.old) (joined_packets (option_to_list result)) (left C.seen self.new) }
         ensures first { IfSome self.old.kept (λ lot. result ≡ Some lot) }
         ensures none { IfNone result (IsOver (left C.seen self.new)) }
     {
@@ -140,7 +140,7 @@ impl<C: Child> Work<C> {
 
 /// Puts each lot of the work, and waits while the belt is full. Where the flag is set, a full belt ends the call, and the
 /// lot is kept. Where all lanes are to stop, the child is given up.
-pub(crate) fn drive<C: Child + Drop, R: Wait>(
+pub(crate) fn drive_work<C: Child + Drop, R: Wait>(
     rt: &R,
     shared: &Shared,
     flag: &AtomicBool,
@@ -152,7 +152,7 @@ pub(crate) fn drive<C: Child + Drop, R: Wait>(
 {
     for _ in rt.forever() {
         // The count is read before the flag, so that a stop between the two is not slept through.
-        let seen = shared.gate.takes();
+        let seen = shared.gate.takes_so_far();
         if shared.stop.load(Ordering::SeqCst) {
             let Work {
                 lane,

@@ -1,13 +1,13 @@
 use Rattle.std.proofs.Common.{◌≡◌, ◌+◌, ◌-◌, ◌≤◌, List, [], ℕ, false, length}
 use Rattle.edge_io.specs.Steps.{Goes, Grown, HasDraft}
+use Rattle.edge_io.specs.Limits.{most_bytes}
 use Rattle.packet_codec.specs.Grammar.{AreBytes}
 use Rattle.run_shelf.specs.Drafts.{SameButDraft}
 use Rattle.worker_lane.specs.Scribing.{Recording}
 use Rattle.stream_reader.specs.Room.{most_held}
-use Rattle.command_steps.specs.Files.{AreFrontOf, NoneFailed}
+use Rattle.command_steps.specs.Files.{AreFrontOf, NoneFailedFiling}
 use Rattle.command_steps.specs.Hearing.{HearsMore}
 use Rattle.command_steps.specs.Outside.{filed}
-use Rattle.command_steps.specs.Recording.{most_bytes}
 use Rattle.command_steps.proofs.files.record_pieces.Given as goal
 
 -- the packets of the bytes read so far were written
@@ -21,7 +21,7 @@ invariant-loop-found g l = record {
   lane : l.scribe.lane ≡ l.fn.scribe.lane;
   empty : l.packets.items ≡ [];
   rests : Goes (g.H.Shelf.seen l.initial.shelf).told (g.H.Shelf.seen l.shelf).told SameButDraft;
-  counts : NoneFailed (filed (g.H.Shelf.seen l.initial.shelf) (g.F.Site.seen l.initial.site)) (filed (g.H.Shelf.seen l.shelf) (g.F.Site.seen l.site));
+  counts : NoneFailedFiling (filed (g.H.Shelf.seen l.initial.shelf) (g.F.Site.seen l.initial.site)) (filed (g.H.Shelf.seen l.shelf) (g.F.Site.seen l.site));
   files : (g.F.Site.seen l.site).told ≡ (g.F.Site.seen l.initial.site).told;
 }
 

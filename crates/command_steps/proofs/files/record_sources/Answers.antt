@@ -1,7 +1,7 @@
 use Rattle.std.proofs.Common.{[], refl, sym, ◌∙◌}
 use Rattle.suite_run.specs.Aloud.{sinks}
 use Rattle.suite_run.proofs.EarLemmas.{either_said, first_of_either, hears_none, second_of_either, since_none}
-use Rattle.command_steps.specs.declared.speaking.Silenced.{Silenced}
+use Rattle.command_steps.specs.declared.live_lines.Silenced.{Silenced}
 use Rattle.command_steps.proofs.SourceLemmas.{answer_step, answer_aloud, at_refusal, heard_nothing, sources_part}
 use Rattle.command_steps.proofs.files.record_sources.Goals as goal
 

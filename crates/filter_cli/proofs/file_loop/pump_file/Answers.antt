@@ -1,6 +1,6 @@
 use Rattle.std.proofs.Common.{◌+◌, refl, ◌<◌, [], ◌++◌, length, take, inl, inr, ◌∙◌, arith, length-append, append-nil}
 use Rattle.std.proofs.KnownBytes.{Consumes-trans}
-use Rattle.filter_cli.specs.Pumping.{most_bytes}
+use Rattle.edge_io.specs.Limits.{most_bytes}
 use Rattle.filter_cli.proofs.PipeLemmas.{rose_later, took_none, text_is, wrote_all, wrote_part, told_longer}
 use Rattle.filter_cli.proofs.FileLemmas.{rest_begun, rest_there, there_as, refused_says, read_refused, stopped_says, stopped_file}
 use Rattle.filter_cli.proofs.file_loop.pump_file.Goals as goal

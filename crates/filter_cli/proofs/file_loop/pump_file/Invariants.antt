@@ -1,7 +1,7 @@
 use Rattle.std.proofs.Common.{◌≡◌, ◌⊎◌, ◌+◌, ◌-◌, ◌≤◌, List, ℕ, [], length}
 use Rattle.std.specs.Io.KnownBytes.{Consumes, Appends}
+use Rattle.edge_io.specs.Limits.{most_bytes}
 use Rattle.filter_cli.specs.FileReads.{left_of_file, IsThere}
-use Rattle.filter_cli.specs.Pumping.{most_bytes}
 use Rattle.filter_cli.proofs.file_loop.pump_file.Given as goal
 
 -- the bytes of the file read so far were fed, and what they decide was written

@@ -1,6 +1,6 @@
 use Rattle.std.proofs.Common.{◌++◌, subst}
 use Rattle.filter_cli.specs.Streams.{writing_of, sees_by, ends_by}
-use Rattle.filter_cli.specs.declared.asked.Asked.{Asked}
+use Rattle.filter_cli.specs.declared.request.Asked.{Asked}
 use Rattle.filter_cli.proofs.BadLemmas.{same_asked}
 use Rattle.filter_cli.proofs.StatusLemmas.{status_at_most}
 use Rattle.filter_cli.proofs.WritingLaws.{by_front, by_one, by_one_seen, by_some, by_some_seen}

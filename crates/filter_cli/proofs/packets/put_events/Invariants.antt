@@ -1,5 +1,5 @@
 use Rattle.std.proofs.Common.{◌≡◌, ◌++◌, take}
-use Rattle.filter_cli.specs.Events.{packets_of}
+use Rattle.packet_codec.specs.Canonical.{packets_of}
 use Rattle.filter_cli.proofs.packets.put_events.Given as goal
 
 abbrev pub invariant-loop-event : goal.invariant-loop-event

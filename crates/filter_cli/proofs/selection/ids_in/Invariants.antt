@@ -1,7 +1,7 @@
 use Rattle.std.proofs.Common.{◌≡◌, map, take}
-use Rattle.command_words.specs.Code.{shown}
+use Rattle.command_words.specs.Code.{item_meant}
 use Rattle.filter_cli.specs.Selecting as selecting
 use Rattle.filter_cli.proofs.selection.ids_in.Given as goal
 
 abbrev pub invariant-loop-item : goal.invariant-loop-item
-invariant-loop-item l = l.ids ≡ selecting.values_added l.added (map shown (take l.item-index l.items))
+invariant-loop-item l = l.ids ≡ selecting.values_added l.added (map item_meant (take l.item-index l.items))

@@ -1,9 +1,9 @@
 use Rattle.std.proofs.Common.{List, ℕ, ◌++◌, ap, ◌∙◌}
 use Rattle.std.specs.Prelude.{codes}
-use Rattle.junit_xml.specs.declared.escaping.Place.TheVariants.{Value}
+use Rattle.sub_number.specs.Seconds.{printed_seconds}
+use Rattle.junit_xml.specs.declared.characters.Place.TheVariants.{Value}
 use Rattle.junit_xml.specs.Characters.{written}
-use Rattle.junit_xml.specs.Seconds.{printed_seconds}
-use Rattle.junit_xml.specs.Documents.{attribute, tag_line, class_of, name_of}
+use Rattle.junit_xml.specs.Documents.{attribute, tag_line, class_of, case_name}
 use Rattle.packet_codec.proofs.WritingLemmas.{kept_behind}
 use Rattle.junit_xml.proofs.AppendLemmas.{more, case_begun}
 use Rattle.junit_xml.proofs.document.put_case_begin.Goals as goal
@@ -20,8 +20,8 @@ returns-clause-ok c =
     c.in_ok-extend_from_slice.ensures.items c.in_ok-put_value.ensures.ok c.in_ok-extend_from_slice-2.ensures.items c.in_ok-put_value-2.ensures.ok
     c.in_ok-extend_from_slice-3.ensures.items c.in_ok-put_seconds.ensures.ok c.in_ok-extend_from_slice-4.ensures.items
     ∙ ap (λ (l : List ℕ). old ++ whole l c.names_of.result.1.now c.unwrap_or.result) (c.names_of.ensures.class ∙ ap class_of c.bytes.ensures.bytes)
-    ∙ ap (λ (l : List ℕ). old ++ whole (class_of row.id) l c.unwrap_or.result) (c.names_of.ensures.name ∙ ap name_of c.bytes.ensures.bytes)
-    ∙ ap (λ (n : ℕ). old ++ whole (class_of row.id) (name_of row.id) n) c.unwrap_or.ensures
+    ∙ ap (λ (l : List ℕ). old ++ whole (class_of row.id) l c.unwrap_or.result) (c.names_of.ensures.name ∙ ap case_name c.bytes.ensures.bytes)
+    ∙ ap (λ (n : ℕ). old ++ whole (class_of row.id) (case_name row.id) n) c.unwrap_or.ensures
 
 abbrev class_mark : List ℕ
 class_mark = codes "<testcase classname=\""

@@ -1,6 +1,6 @@
 use Rattle.std.proofs.Common.{List, ℕ, ◌++◌, ap, sym, ◌∙◌, append_assoc}
 use Rattle.std.specs.Prelude.{codes}
-use Rattle.junit_xml.specs.declared.escaping.Place.TheVariants.{Text}
+use Rattle.junit_xml.specs.declared.characters.Place.TheVariants.{Text}
 use Rattle.junit_xml.specs.Characters.{written}
 use Rattle.junit_xml.proofs.AppendLemmas.{more}
 use Rattle.junit_xml.proofs.document.put_failure.Goals as goal

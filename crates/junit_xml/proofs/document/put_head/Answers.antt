@@ -2,7 +2,8 @@ use Rattle.std.proofs.Common.{List, ℕ, ◌++◌, ap, ◌∙◌, append_assoc}
 use Rattle.std.specs.Prelude.{codes}
 use Rattle.std.specs.Fmt.{decimal}
 use Rattle.packet_codec.proofs.WritingLemmas.{kept_behind}
-use Rattle.junit_xml.specs.Seconds.{printed_seconds, seconds_of}
+use Rattle.sub_number.specs.Seconds.{printed_seconds}
+use Rattle.junit_xml.specs.Seconds.{seconds_text}
 use Rattle.junit_xml.specs.Documents.{attribute, declaration}
 use Rattle.junit_xml.proofs.AppendLemmas.{more, in_two}
 use Rattle.junit_xml.proofs.document.put_head.Goals as goal
@@ -29,7 +30,7 @@ returns-clause-ok c =
     more old whole _ _ (attribute (codes "time") (printed_seconds c.unwrap_or.result) ++ codes ">\n") fourth
     (c.in_ok-put_time.ensures.ok ∙ append_assoc c.put_count-3.new.text.items (attribute (codes "time") (printed_seconds c.unwrap_or.result)) (codes ">\n"))
     ∙ ap (λ (n : ℕ). old ++ (whole ++ (attribute (codes "time") (printed_seconds n) ++ codes ">\n"))) c.unwrap_or.ensures
-    ∙ ap (λ (l : List ℕ). old ++ l) (in_two whole (attribute (codes "time") (seconds_of counts.nanos)) (codes ">") (codes "\n"))
+    ∙ ap (λ (l : List ℕ). old ++ l) (in_two whole (attribute (codes "time") (seconds_text counts.nanos)) (codes ">") (codes "\n"))
 
 pub returns-in_err-put_time-clause-kept : goal.returns-in_err-put_time-clause-kept
 returns-in_err-put_time-clause-kept c =

@@ -1,13 +1,12 @@
 use Rattle.std.proofs.Common.{◌++◌, sym, ap, subst, List, ℕ, Ok}
 use Rattle.std.specs.List.{flat_map}
-use Rattle.run_ledger.specs.Caches.{entry}
-use Rattle.run_ledger.specs.Cuts.{AreIds}
+use Rattle.run_shelf.specs.IdFiles.{with_zero, AreIds}
 use Rattle.run_ledger.proofs.FormLemmas.{no_ids, next_refused, end_refused, not_empty}
 use Rattle.run_ledger.proofs.failing_cache.read_entries.Goals as goal
 
 pub loop-id-init : goal.loop-id-init
 loop-id-init c = record {
-  is = ap (λ (l : List (List ℕ)). flat_map entry l ++ c.args.bytes.now) (sym c.new-ids.ensures);
+  is = ap (λ (l : List (List ℕ)). flat_map with_zero l ++ c.args.bytes.now) (sym c.new-ids.ensures);
   are = subst AreIds (sym c.new-ids.ensures) no_ids;
 }
 

@@ -2,7 +2,7 @@ use Rattle.std.proofs.Common.{◌≡◌, sym, subst, arith, length, List, ℕ}
 use Rattle.std.proofs.lemmas.Result.{on_ok_weaker}
 use Rattle.std.specs.List.Sorted.{IsStrictlySortedBy}
 use Rattle.outcome_fold.specs.Order.{text_cmp}
-use Rattle.run_shelf.specs.declared.side.Side.TheVariants.{Failing, Times}
+use Rattle.run_shelf.specs.declared.cache_file.CacheFile.TheVariants.{Failing, Times}
 use Rattle.run_shelf.specs.Stores.{store_kinds}
 use Rattle.run_ledger.specs.Caches.{IsFailingCache, IsTimesCache}
 use Rattle.run_ledger.proofs.RefreshLemmas.{put_passes, goes_first_sound, goes_both_keep, goes_caches, goes_both_pass, goes_both_sound}

@@ -1,5 +1,6 @@
 use Rattle.std.proofs.Common.{List, ℕ, ◌++◌, ap, ◌∙◌}
-use Rattle.run_ledger.specs.Caches.{heading, times_title}
+use Rattle.run_shelf.specs.IdFiles.{heading}
+use Rattle.run_ledger.specs.Caches.{times_title}
 use Rattle.run_ledger.proofs.EntryLemmas.{cache_is}
 use Rattle.run_ledger.proofs.times_cache.write_entries_cache.Goals as goal
 

@@ -5,7 +5,7 @@ use Rattle.stream_reader.proofs.ExistLemmas.{some_notes, some_decided}
 use Rattle.stream_reader.proofs.RoomLemmas.{decided_few}
 use Rattle.stream_reader.proofs.TurnLemmas.{one_notes, one_decided}
 use Rattle.stream_reader.proofs.CutLemmas.{open_cut_first}
-use Rattle.stream_reader.proofs.NotesLemmas.{decided_first, are_full, are_made, packets_of, notes_of_packets, events_of_packets, cut_of_written}
+use Rattle.stream_reader.proofs.NotesLemmas.{decided_first, are_full, are_made, packet_pieces, notes_of_packets, events_of_packets, cut_of_written}
 use Rattle.stream_reader.specs.declared.note.Note.TheVariants as note
 use Rattle.stream_reader.proofs.laws.notes_of_streams.Goals as goal
 
@@ -31,11 +31,11 @@ returns-clause-decided_first c = λ bytes more notes others are h k.
     (first.0, k.made ∙ ap notes_of cut.1 ∙ first.1 ∙ ap (λ l. l ++ first.0) (sym h.made))
 
 pub returns-clause-written : goal.returns-clause-written
-returns-clause-written c = λ events are fit. record { pieces = packets_of events; cut = cut_of_written events are fit; made = sym (notes_of_packets events) }
+returns-clause-written c = λ events are fit. record { pieces = packet_pieces events; cut = cut_of_written events are fit; made = sym (notes_of_packets events) }
 
 pub returns-clause-written_events : goal.returns-clause-written_events
 returns-clause-written_events c = λ events are fit.
-    (map note.Event events, record { pieces = packets_of events; cut = cut_of_written events are fit; made = sym (notes_of_packets events) }, sym (events_of_packets events))
+    (map note.Event events, record { pieces = packet_pieces events; cut = cut_of_written events are fit; made = sym (notes_of_packets events) }, sym (events_of_packets events))
 
 pub returns-clause-full_runs : goal.returns-clause-full_runs
 returns-clause-full_runs c = λ bytes notes h. rw (h.made) (are_full h.pieces [] (omega arith))

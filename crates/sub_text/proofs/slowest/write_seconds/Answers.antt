@@ -1,6 +1,7 @@
 use Rattle.std.proofs.Common.{◌≡◌, ◌-◌, ◌++◌, ap, ◌∙◌, take, length, rules, append_assoc}
 use Rattle.std.specs.Prelude.{codes}
-use Rattle.sub_text.specs.Texts.{printed_seconds, in_ten_places}
+use Rattle.sub_number.specs.Seconds.{printed_seconds}
+use Rattle.sub_text.specs.Texts.{in_ten_places}
 use Rattle.sub_text.proofs.SlowLemmas.{padded}
 use Rattle.sub_text.proofs.slowest.write_seconds.Goals as goal
 

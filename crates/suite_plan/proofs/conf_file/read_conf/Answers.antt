@@ -1,5 +1,5 @@
 use Rattle.std.proofs.Common.{◌≡◌, Option, Ok, IfOk, subst, ◌∙◌}
-use Rattle.suite_plan.specs.ConfFile.{files_say, settings_of, ReadsSaid}
+use Rattle.suite_plan.specs.ConfFile.{files_say, project_settings, ReadsSaid}
 use Rattle.testr_conf.specs.Settings.{Settings}
 use Rattle.suite_plan.proofs.ConfLemmas.{project_end, project_absent, project_refuses}
 use Rattle.suite_plan.proofs.conf_file.read_conf.Goals as goal
@@ -12,7 +12,7 @@ returns-in-Ok-Some g c =
           (g.F.Site.seen c.args.site.now) (g.F.Site.seen c.read_files.new.site) c.in-Ok-Some.conf
           (subst (λ (o : Option Settings). ReadsSaid (files_say c.args.face c.args.words.now) (g.F.Site.seen c.args.site.now) (g.F.Site.seen c.read_files.new.site) (Ok o)) c.in-Ok-Some.field-0-is c.in-Ok-Some.ensures.step)
           c.of_project.result
-          (subst (λ l. IfOk c.of_project.result (λ (s : Settings). s ≡ settings_of l c.args.words.now c.in-Ok-Some.conf)) path c.of_project.ensures.settings)
+          (subst (λ l. IfOk c.of_project.result (λ (s : Settings). s ≡ project_settings l c.args.words.now c.in-Ok-Some.conf)) path c.of_project.ensures.settings)
           c.of_project.ensures.memory;
     }
 

@@ -2,7 +2,7 @@ use Rattle.std.proofs.Common.{◌≡◌, ◌≤◌, length, Some, None, Err, IfS
 use Rattle.std.specs.Option.{option_map}
 use Rattle.edge_io.specs.Files.{IsFileOf, IsTooLong}
 use Rattle.suite_plan.specs.Texts.{most_text}
-use Rattle.suite_plan.specs.ConfFile.{file_name, file_says, ReadsSaid}
+use Rattle.suite_plan.specs.ConfFile.{conf_file_name, file_says, ReadsSaid}
 use Rattle.suite_plan.specs.declared.conf_file.ConfRefusal.{ConfRefusal}
 use Rattle.suite_plan.proofs.ConfLemmas.{text_end, absent_end, unread_as}
 use Rattle.suite_plan.proofs.conf_file.read_one.Goals as goal
@@ -13,12 +13,12 @@ returns-in-Ok-Some g c =
     let text_is : items ≡ c.deref.result.now = sym c.deref.ensures.value in
     let named : IsFileOf (g.F.Site.seen c.args.site.now).told c.name.result.now (Some items) =
     subst (λ o. IsFileOf (g.F.Site.seen c.args.site.now).told c.name.result.now (option_map (λ bytes. bytes.items) o)) c.in-Ok-Some.field-0-is c.in-Ok-Some.ensures.file in
-    let there : IsFileOf (g.F.Site.seen c.args.site.now).told (file_name c.args.file) (Some items) =
+    let there : IsFileOf (g.F.Site.seen c.args.site.now).told (conf_file_name c.args.file) (Some items) =
     subst (λ n. IsFileOf (g.F.Site.seen c.args.site.now).told n (Some items)) c.name.ensures named in
     let short : length items ≤ most_text = subst (λ o. IfSome o (λ bytes. length bytes.items ≤ most_text)) c.in-Ok-Some.field-0-is c.in-Ok-Some.ensures.fits in
     record {
       step = text_end c.args.words.now c.args.file _ _ c.in-Ok-Some.ensures.same c.deref.result.now c.read_text.result
-          (subst (λ l. IsFileOf (g.F.Site.seen c.args.site.now).told (file_name c.args.file) (Some l)) text_is there)
+          (subst (λ l. IsFileOf (g.F.Site.seen c.args.site.now).told (conf_file_name c.args.file) (Some l)) text_is there)
           (subst (λ l. length l ≤ most_text) text_is short)
           c.in-Ok-Some.ensures.count c.read_text.ensures;
     }

@@ -24,13 +24,13 @@ returns-in_err-text g c = λ folder input.
     (part_done _ _ c.in_ok-ids.ensures.step
     (still_stops _ c.from_residual-in_err-text.ensures.1 (record { lines = tt }) refl)))
 
-pub returns-in_err-print : goal.returns-in_err-print
-returns-in_err-print g c = λ folder input.
+pub returns-in_err-print_text : goal.returns-in_err-print_text
+returns-in_err-print_text g c = λ folder input.
     still_done _ c.in_ok-compiled.ensures
     (part_done _ _ c.in_ok-further.ensures
     (part_done _ _ c.in_ok-ids.ensures.step
     (still_done c.in_ok-text.text.items (writes_as _ _ _ _ c.in_ok-compiled.compiled c.in_ok-text.text.items c.in_ok-compiled.ensures c.in_ok-text.ensures)
-    (part_stops _ c.from_residual-in_err-print.ensures.1 (prints_as c.deref.ensures.value c.in_err-print.ensures) refl))))
+    (part_stops _ c.from_residual-in_err-print_text.ensures.1 (prints_as c.deref.ensures.value c.in_err-print_text.ensures) refl))))
 
 pub returns : goal.returns
 returns g c = λ folder input.
@@ -38,5 +38,5 @@ returns g c = λ folder input.
     (part_done _ _ c.in_ok-further.ensures
     (part_done _ _ c.in_ok-ids.ensures.step
     (still_done c.in_ok-text.text.items (writes_as _ _ _ _ c.in_ok-compiled.compiled c.in_ok-text.text.items c.in_ok-compiled.ensures c.in_ok-text.ensures)
-    (part_done _ _ (prints_as c.deref.ensures.value c.in_ok-print.ensures)
+    (part_done _ _ (prints_as c.deref.ensures.value c.in_ok-print_text.ensures)
     gives))))

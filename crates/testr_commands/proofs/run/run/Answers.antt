@@ -16,28 +16,28 @@ invariant_of-stored g c = record { known = known_so _ _ _ _ c.runs-number.ensure
 pub returns-in_err-found-clause-step : goal.returns-in_err-found-clause-step
 returns-in_err-found-clause-step g c = λ input. part_stops _ c.from_residual.ensures.1 c.in_err-found.ensures.step refl
 
-pub returns-in_err-take_run-clause-step : goal.returns-in_err-take_run-clause-step
-returns-in_err-take_run-clause-step g c = λ input.
+pub returns-in_err-check_next_number-clause-step : goal.returns-in_err-check_next_number-clause-step
+returns-in_err-check_next_number-clause-step g c = λ input.
     part_done _ _ c.in_ok-found.ensures.step
-    (still_stops _ c.from_residual-in_err-take_run.ensures.1 c.in_err-take_run.ensures refl)
+    (still_stops _ c.from_residual-in_err-check_next_number.ensures.1 c.in_err-check_next_number.ensures refl)
 
 pub returns-in_err-asked-clause-step : goal.returns-in_err-asked-clause-step
 returns-in_err-asked-clause-step g c = λ input.
     part_done _ _ c.in_ok-found.ensures.step
-    (still_done _ c.in_ok-take_run.ensures
+    (still_done _ c.in_ok-check_next_number.ensures
     (still_stops _ c.from_residual-in_err-asked.ensures.1 c.in_err-asked.ensures.compiled refl))
 
 pub returns-in_err-selected-clause-step : goal.returns-in_err-selected-clause-step
 returns-in_err-selected-clause-step g c = λ input.
     part_done _ _ c.in_ok-found.ensures.step
-    (still_done _ c.in_ok-take_run.ensures
+    (still_done _ c.in_ok-check_next_number.ensures
     (still_done c.in_ok-asked.asked.compiled c.in_ok-asked.ensures.compiled
     (stopped _ c.from_residual-in_err-selected.ensures.1 (c.in_err-selected.ensures.step _ _))))
 
 pub returns-in_err-plan-clause-step : goal.returns-in_err-plan-clause-step
 returns-in_err-plan-clause-step g c = λ input.
     part_done _ _ c.in_ok-found.ensures.step
-    (still_done _ c.in_ok-take_run.ensures
+    (still_done _ c.in_ok-check_next_number.ensures
     (still_done c.in_ok-asked.asked.compiled c.in_ok-asked.ensures.compiled
     (goes_on c.in_ok-selected.selected _ (c.in_ok-selected.ensures.step _ _)
     (stopped _ c.from_residual-in_err-plan.ensures.1 (c.in_err-plan.ensures.step _ _ _ _)))))
@@ -45,7 +45,7 @@ returns-in_err-plan-clause-step g c = λ input.
 pub returns-in_err-kept-clause-step : goal.returns-in_err-kept-clause-step
 returns-in_err-kept-clause-step g c = λ input.
     part_done _ _ c.in_ok-found.ensures.step
-    (still_done _ c.in_ok-take_run.ensures
+    (still_done _ c.in_ok-check_next_number.ensures
     (still_done c.in_ok-asked.asked.compiled c.in_ok-asked.ensures.compiled
     (goes_on c.in_ok-selected.selected _ (c.in_ok-selected.ensures.step _ _)
     (goes_on (record { jobs = c.in_ok-plan.plan.jobs.items; asked = c.in_ok-plan.plan.asked.items }) _ (c.in_ok-plan.ensures.step _ _ _ _)
@@ -56,7 +56,7 @@ returns-in-Err-clause-step g c =
     let sums = c.in_ok-kept.ensures.step in
     λ input.
     part_done _ _ c.in_ok-found.ensures.step
-    (still_done _ c.in_ok-take_run.ensures
+    (still_done _ c.in_ok-check_next_number.ensures
     (still_done c.in_ok-asked.asked.compiled c.in_ok-asked.ensures.compiled
     (goes_on c.in_ok-selected.selected _ (c.in_ok-selected.ensures.step _ _)
     (goes_on (record { jobs = c.in_ok-plan.plan.jobs.items; asked = c.in_ok-plan.plan.asked.items }) _ (c.in_ok-plan.ensures.step _ _ _ _)
@@ -68,7 +68,7 @@ returns-clause-step g c =
     let sums = c.in_ok-kept.ensures.step in
     λ input.
     part_done _ _ c.in_ok-found.ensures.step
-    (still_done _ c.in_ok-take_run.ensures
+    (still_done _ c.in_ok-check_next_number.ensures
     (still_done c.in_ok-asked.asked.compiled c.in_ok-asked.ensures.compiled
     (goes_on c.in_ok-selected.selected _ (c.in_ok-selected.ensures.step _ _)
     (goes_on (record { jobs = c.in_ok-plan.plan.jobs.items; asked = c.in_ok-plan.plan.asked.items }) _ (c.in_ok-plan.ensures.step _ _ _ _)
@@ -80,8 +80,8 @@ returns-clause-step g c =
 pub returns-in_err-found-clause-calls : goal.returns-in_err-found-clause-calls
 returns-in_err-found-clause-calls g c = early _ _ _ _ _ _ _ (refused _ _ c.from_residual.ensures.1) (omega (arith, c.in_err-found.ensures.time))
 
-pub returns-in_err-take_run-clause-calls : goal.returns-in_err-take_run-clause-calls
-returns-in_err-take_run-clause-calls g c = early _ _ _ _ _ _ _ (refused _ _ c.from_residual-in_err-take_run.ensures.1) (omega (arith, c.in_ok-found.ensures.time))
+pub returns-in_err-check_next_number-clause-calls : goal.returns-in_err-check_next_number-clause-calls
+returns-in_err-check_next_number-clause-calls g c = early _ _ _ _ _ _ _ (refused _ _ c.from_residual-in_err-check_next_number.ensures.1) (omega (arith, c.in_ok-found.ensures.time))
 
 pub returns-in_err-asked-clause-calls : goal.returns-in_err-asked-clause-calls
 returns-in_err-asked-clause-calls g c = early _ _ _ _ _ _ _ (refused _ _ c.from_residual-in_err-asked.ensures.1) (omega (arith, c.in_ok-found.ensures.time))
@@ -113,8 +113,8 @@ returns-clause-calls g c =
 pub returns-in_err-found-clause-says : goal.returns-in_err-found-clause-says
 returns-in_err-found-clause-says g c = said_early _ _ _ _ _ _ _ refl c.requires.speaks.0 c.requires.speaks.1 (refused _ _ c.from_residual.ensures.1)
 
-pub returns-in_err-take_run-clause-says : goal.returns-in_err-take_run-clause-says
-returns-in_err-take_run-clause-says g c = said_early _ _ _ _ _ _ _ refl c.requires.speaks.0 c.requires.speaks.1 (refused _ _ c.from_residual-in_err-take_run.ensures.1)
+pub returns-in_err-check_next_number-clause-says : goal.returns-in_err-check_next_number-clause-says
+returns-in_err-check_next_number-clause-says g c = said_early _ _ _ _ _ _ _ refl c.requires.speaks.0 c.requires.speaks.1 (refused _ _ c.from_residual-in_err-check_next_number.ensures.1)
 
 pub returns-in_err-asked-clause-says : goal.returns-in_err-asked-clause-says
 returns-in_err-asked-clause-says g c = said_early _ _ _ _ _ _ _ refl c.requires.speaks.0 c.requires.speaks.1 (refused _ _ c.from_residual-in_err-asked.ensures.1)
@@ -146,8 +146,8 @@ returns-clause-says g c =
 pub returns-in_err-found-clause-left : goal.returns-in_err-found-clause-left
 returns-in_err-found-clause-left g c = λ input small. absurd (refused _ _ c.from_residual.ensures.1 small)
 
-pub returns-in_err-take_run-clause-left : goal.returns-in_err-take_run-clause-left
-returns-in_err-take_run-clause-left g c = λ input small. absurd (refused _ _ c.from_residual-in_err-take_run.ensures.1 small)
+pub returns-in_err-check_next_number-clause-left : goal.returns-in_err-check_next_number-clause-left
+returns-in_err-check_next_number-clause-left g c = λ input small. absurd (refused _ _ c.from_residual-in_err-check_next_number.ensures.1 small)
 
 pub returns-in_err-asked-clause-left : goal.returns-in_err-asked-clause-left
 returns-in_err-asked-clause-left g c = λ input small. absurd (refused _ _ c.from_residual-in_err-asked.ensures.1 small)

@@ -5,8 +5,8 @@ use Rattle.outcome_fold.specs.Summed.{Sums}
 use Rattle.testr_commands.proofs.SelfTestRows.{few_parts, drawn_in_turn}
 use Rattle.testr_commands.proofs.selftest.drawn_summary.Goals as goal
 
-pub plans-requires : goal.plans-requires
-plans-requires g c =
+pub drawn_plans-requires : goal.drawn_plans-requires
+drawn_plans-requires g c =
     let few = few_parts c.args.drawing.lanes c.args.drawing.tests c.requires.few in
     record { some = few.some; few = few.few; most = few.most }
 

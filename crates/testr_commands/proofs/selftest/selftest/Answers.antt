@@ -5,13 +5,13 @@ use Rattle.testr_commands.proofs.selftest.selftest.Goals as goal
 pub returns-in_err-told : goal.returns-in_err-told
 returns-in_err-told g c = λ folder site spawner input. still_stops _ c.from_residual.ensures.1 c.in_err-told.ensures refl
 
-pub returns-in_err-print : goal.returns-in_err-print
-returns-in_err-print g c = λ folder site spawner input.
+pub returns-in_err-print_text : goal.returns-in_err-print_text
+returns-in_err-print_text g c = λ folder site spawner input.
     still_done _ c.in_ok-told.ensures
-    (part_stops _ c.from_residual-in_err-print.ensures.1 (prints_as c.deref.ensures.value c.in_err-print.ensures) refl)
+    (part_stops _ c.from_residual-in_err-print_text.ensures.1 (prints_as c.deref.ensures.value c.in_err-print_text.ensures) refl)
 
 pub returns : goal.returns
 returns g c = λ folder site spawner input.
     still_done _ c.in_ok-told.ensures
-    (part_done _ _ (prints_as c.deref.ensures.value c.in_ok-print.ensures)
+    (part_done _ _ (prints_as c.deref.ensures.value c.in_ok-print_text.ensures)
     gives)

@@ -9,6 +9,6 @@ returns g c =
     record {
       told = record {
         text = c.in_ok-summary_from.ensures.ok ∙ (λ i. c.new-text.ensures.items i ++ summary_lines (c.counts.ensures [] rows c.in_ok-summary.ensures i) 0);
-        verdict = c.verdict_kept.ensures [] rows c.in_ok-summary.ensures;
+        verdict = c.verdict_of_summary.ensures [] rows c.in_ok-summary.ensures;
       };
     }

@@ -3,4 +3,4 @@ use Rattle.std.proofs.lemmas.List.{length-take-le}
 use Rattle.v1_bridge.proofs.part.piece_at.Goals as goal
 
 pub slice_bounds-result-end : goal.slice_bounds-result-end
-slice_bounds-result-end c = sym (length-take-le 65536 c.behind.result.now (omega (arith, ap length c.behind.ensures.rest, length-drop (65536 * c.args.number) c.args.bytes.now, c.requires)))
+slice_bounds-result-end c = sym (length-take-le 65536 c.bytes_behind.result.now (omega (arith, ap length c.bytes_behind.ensures.rest, length-drop (65536 * c.args.number) c.args.bytes.now, c.requires)))

@@ -1,7 +1,7 @@
 use Rattle.std.proofs.Common.{ℕ, List, ◌∙◌, ap, sym, subst}
 use Rattle.worker_lane.specs.Endings.{IsLotOf}
 use Rattle.worker_lane.specs.Lanes.{lane_number}
-use Rattle.worker_lane.specs.Rest.{Gives}
+use Rattle.worker_lane.specs.Rest.{GivesIfTold}
 use Rattle.worker_mux.specs.Callers.{packet_of}
 use Rattle.worker_mux.specs.Works.{ArePacketsUnder, bytes_left}
 use Rattle.worker_mux.proofs.Going.{own_first}
@@ -14,5 +14,5 @@ join_packets-requires g c = record {
 
 pub returns-in-Packet-clause-gives : goal.returns-in-Packet-clause-gives
 returns-in-Packet-clause-gives g c = λ start so.
-    subst (λ (l : List ℕ). Gives start l (bytes_left g.C.Child.seen c.join_packets.new.lane)) (sym c.from_vec.ensures)
-    (c.join_packets.ensures.gives start (subst (λ (l : List ℕ). Gives start l (bytes_left g.C.Child.seen c.args.lane.now)) (ap packet_of c.in-Packet.is ∙ sym c.into_vec-packets.ensures) so))
+    subst (λ (l : List ℕ). GivesIfTold start l (bytes_left g.C.Child.seen c.join_packets.new.lane)) (sym c.from_vec.ensures)
+    (c.join_packets.ensures.gives start (subst (λ (l : List ℕ). GivesIfTold start l (bytes_left g.C.Child.seen c.args.lane.now)) (ap packet_of c.in-Packet.is ∙ sym c.into_vec-packets.ensures) so))

@@ -1,7 +1,7 @@
 use Rattle.std.proofs.Common.{rules, ◌≡◌, [], ◌∷◌, ◌++◌, ap, ◌∙◌}
 use Rattle.edge_io.specs.Disk.{put}
 use Rattle.edge_io.specs.Kept.{lookup}
-use Rattle.edge_io.specs.declared.kept.File.{File}
+use Rattle.edge_io.specs.declared.published_files.File.{File}
 use Rattle.edge_io.proofs.KeptLemmas.{lookup-push}
 use Rattle.edge_io.proofs.map_site.MapSite.put.Goals as goal
 

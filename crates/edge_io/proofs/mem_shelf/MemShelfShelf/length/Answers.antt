@@ -8,7 +8,7 @@ pub returns-in-Some-clause-found : goal.returns-in-Some-clause-found
 returns-in-Some-clause-found c =
     let s = c.args.self.now in
     ap (option_map length) (ap (option_map (λ bytes. bytes.now)) (sym c.in-Some.is)
-    ∙ c.bytes_of.ensures
+    ∙ c.last_bytes_of.ensures
     ∙ ap (λ files. lookup files c.args.name.now) c.deref.ensures.value
     ∙ ap (λ files. files c.args.name.now) (sym (published_all s.files.items s.current s.settled_first s.one_pending s.all_published)))
 
@@ -16,6 +16,6 @@ pub returns-in-None-clause-found : goal.returns-in-None-clause-found
 returns-in-None-clause-found c =
     let s = c.args.self.now in
     ap (option_map length) (ap (option_map (λ bytes. bytes.now)) (sym c.in-None.is)
-    ∙ c.bytes_of.ensures
+    ∙ c.last_bytes_of.ensures
     ∙ ap (λ files. lookup files c.args.name.now) c.deref.ensures.value
     ∙ ap (λ files. files c.args.name.now) (sym (published_all s.files.items s.current s.settled_first s.one_pending s.all_published)))

@@ -4,7 +4,7 @@ use Rattle.edge_io.proofs.mem_shelf.MemShelfShelf.sync_folder.Goals as goal
 pub returns-clause-ok : goal.returns-clause-ok
 returns-clause-ok c =
     let s = c.args.self.now in
-    sync_step s.files.items s.current s.past.items c.push.new.self.items _ c.turn.new.self.calls s.settled_first s.one_pending s.all_published c.in-Ok.ensures.items
+    sync_step s.files.items s.current s.past.items c.push.new.self.items _ c.count_call.new.self.calls s.settled_first s.one_pending s.all_published c.in-Ok.ensures.items
 
 pub returns-clause-moments : goal.returns-clause-moments
 returns-clause-moments c =

@@ -4,7 +4,7 @@ use Rattle.std.proofs.lemmas.Result.{on_ok_weaker}
 use Rattle.packet_codec.specs.Canonical.{canonical}
 use Rattle.event_sift.specs.declared.held_packets.HeldPackets.{HeldPackets}
 use Rattle.event_sift.specs.Keeping.{keeps}
-use Rattle.event_sift.specs.PacketSifted.{open_packets, packets_in}
+use Rattle.event_sift.specs.PacketSifted.{open_packets, held_packets_in}
 use Rattle.event_sift.proofs.PacketLemmas.{goes_on, ends, last_goes_on, last_ends, packets_of_last, at_ending}
 use Rattle.event_sift.proofs.packet_sift.PacketSift.hear_last.Goals as goal
 
@@ -25,5 +25,5 @@ pub returns-clause-held : goal.returns-clause-held
 returns-clause-held g c = λ seen e last s row next.
     on_ok_weaker c.finish.result
     (λ gone. ends seen e last.key c.in-Some.row _ next.test (sym c.in-Some.is ∙ row)
-    (last_ends _ _ (open_packets seen) last next.heard next.packets _ (gone ∙ ap (λ (held : HeldPackets). map.remove (packets_in held) last.key) c.in_ok-kept.ensures.held)))
+    (last_ends _ _ (open_packets seen) last next.heard next.packets _ (gone ∙ ap (λ (held : HeldPackets). map.remove (held_packets_in held) last.key) c.in_ok-kept.ensures.held)))
     (c.finish.ensures.held last (ap (λ (held : HeldPackets). held.last) c.in_ok-kept.ensures.held ∙ next.heard))

@@ -1,7 +1,8 @@
 use Rattle.std.proofs.Common.{◌≡◌, ◌++◌, ◌<◌, false, length, length-append, ap, subst, refl, arith}
-use Rattle.v1_bridge.specs.Events.{longest_line}
+use Rattle.v1_bridge.specs.Events.{longest_v1_line}
+use Rattle.v1_bridge.specs.Lines.{HasNoNewline}
 use Rattle.stream_reader.proofs.TurnLemmas.{split_parts}
-use Rattle.old_runs.specs.Lines.{IsPlain, HasCut, most_held}
+use Rattle.old_runs.specs.Lines.{HasCut, most_held_of_line}
 use Rattle.old_runs.proofs.PacketLemmas.{gives_none, gives_then, gives_so}
 use Rattle.old_runs.proofs.LineLemmas.{plain_behind, cut_full, cut_held, none_held, most_held_most}
 use Rattle.old_runs.proofs.lines.OldLines.add.Goals as goal
@@ -20,10 +21,10 @@ loop-rest-preserved c =
     let front = c.split_at.result.0.now in
     let behind = c.split_at.result.1.now in
     let parts : c.loop-rest.rest.now ≡ front ++ behind = split_parts _ _ _ _ c.split_at.ensures.front c.split_at.ensures.back in
-    let full : length (held ++ front) ≡ longest_line = omega (arith, length-append held front, c.split_at.ensures.front_len, c.len.ensures, inv.ready.held, most_held_most c.loop-rest.self.long) in
-    let goes : c.loop-rest.self.long ≡ false → 0 < length behind = λ short. omega (arith, ap most_held short, c.room.ensures, c.loop-rest-test.true, c.split_at.ensures.back_len, c.len.ensures) in
+    let full : length (held ++ front) ≡ longest_v1_line = omega (arith, length-append held front, c.split_at.ensures.front_len, c.len.ensures, inv.ready.held, most_held_most c.loop-rest.self.long) in
+    let goes : c.loop-rest.self.long ≡ false → 0 < length behind = λ short. omega (arith, ap most_held_of_line short, c.room.ensures, c.loop-rest-test.true, c.split_at.ensures.back_len, c.len.ensures) in
     record {
-      plain = plain_behind front behind (subst IsPlain parts inv.plain);
+      plain = plain_behind front behind (subst HasNoNewline parts inv.plain);
       ready = record { held = none_held _ c.fill.new.self.long c.in_ok-fill.ensures.held; little = c.in_ok-fill.ensures.little };
       cut = λ all left given h.
           gives_then (HasCut c.loop-rest.self all (c.loop-rest.rest.now ++ left)) (HasCut c.fill.new.self all (behind ++ left)) _ _ _ given (inv.cut all left given h)

@@ -2,7 +2,7 @@ use Rattle.std.proofs.Common.{◌∙◌, ap, sym, refl, is_some}
 use Rattle.std.specs.FinMap as map
 use Rattle.std.proofs.lemmas.Result.{err_from_is_err_and}
 use Rattle.outcome_fold.specs.Order.{test_cmp}
-use Rattle.outcome_fold.specs.Folded.{others_in}
+use Rattle.outcome_fold.specs.Folded.{other_parts_in}
 use Rattle.outcome_fold.proofs.OpenLemmas.{kept_through, taken_through, closed_is, no_others}
 use Rattle.outcome_fold.proofs.GroupLemmas.{found_some}
 use Rattle.outcome_fold.proofs.TableLemmas.{lookup_in_map}
@@ -26,11 +26,11 @@ returns-in-None-clause-was_open c = ap is_some (c.in-None.ensures.value ∙ look
 
 pub returns-in-None-clause-ok : goal.returns-in-None-clause-ok
 returns-in-None-clause-ok c =
-    closed_is (others_in c.args.self.now) _ c.args.key.now c.args.said.now (ap is_some (c.in-None.ensures.value ∙ lookup_in_map tests_total _ _)) (ap (λ m. map.from_entries {R = test_cmp} m.entries) c.get_mut.follows.holds-at-none)
+    closed_is (other_parts_in c.args.self.now) _ c.args.key.now c.args.said.now (ap is_some (c.in-None.ensures.value ∙ lookup_in_map tests_total _ _)) (ap (λ m. map.from_entries {R = test_cmp} m.entries) c.get_mut.follows.holds-at-none)
 
 pub returns-then-is_empty-clause-was_open : goal.returns-then-is_empty-clause-was_open
 returns-then-is_empty-clause-was_open c = ap is_some (sym (no_others c.args.self.now.others.entries _ (c.is_empty.ensures.0 c.if-is_empty.true)))
 
 pub returns-then-is_empty-clause-ok : goal.returns-then-is_empty-clause-ok
 returns-then-is_empty-clause-ok c =
-    closed_is (others_in c.args.self.now) _ c.args.key.now c.args.said.now (ap is_some (sym (no_others c.args.self.now.others.entries _ (c.is_empty.ensures.0 c.if-is_empty.true)))) refl
+    closed_is (other_parts_in c.args.self.now) _ c.args.key.now c.args.said.now (ap is_some (sym (no_others c.args.self.now.others.entries _ (c.is_empty.ensures.0 c.if-is_empty.true)))) refl

@@ -1,5 +1,5 @@
 use Rattle.std.proofs.Common.{sym, ◌∙◌}
-use Rattle.outcome_fold.specs.Folded.{others_in}
+use Rattle.outcome_fold.specs.Folded.{other_parts_in}
 use Rattle.outcome_fold.proofs.EndedLemmas.{no_end}
 use Rattle.outcome_fold.proofs.HeldLemmas.{held_goes_on, held_ends, held_gives, never_gone}
 use Rattle.outcome_fold.proofs.fold.Fold.hear_held.Goals as goal
@@ -21,10 +21,10 @@ returns-in_default-let_go-clause-ok c = λ seen e held s has is test ends.
 
 pub returns-clause-part : goal.returns-clause-part
 returns-clause-part c = λ seen e held s has is test ends.
-    held_gives seen e c.args.self.now.held (others_in c.args.self.now) held has is test c.in-Some.ended c.in-Some-let_go.field-0 _ (sym c.in-Some.is ∙ ends)
+    held_gives seen e c.args.self.now.held (other_parts_in c.args.self.now) held has is test c.in-Some.ended c.in-Some-let_go.field-0 _ (sym c.in-Some.is ∙ ends)
     (c.in-Some-let_go.ensures.held ∙ c.in_ok-extend_held.ensures.ok e held s is) (c.instant_in-end.ensures e s)
 
 pub returns-clause-ok : goal.returns-clause-ok
 returns-clause-ok c = λ seen e held s has is test ends.
     let more = c.in_ok-extend_held.ensures.ok e held s is in
-    held_ends seen e c.args.self.now.held (others_in c.args.self.now) held has is test c.in-Some.ended _ _ _ (sym c.in-Some.is ∙ ends) more c.in_ok-extend_held.ensures.others (c.in-Some-let_go.ensures.rest _ more)
+    held_ends seen e c.args.self.now.held (other_parts_in c.args.self.now) held has is test c.in-Some.ended _ _ _ (sym c.in-Some.is ∙ ends) more c.in_ok-extend_held.ensures.others (c.in-Some-let_go.ensures.rest _ more)

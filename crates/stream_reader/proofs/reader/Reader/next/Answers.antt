@@ -1,7 +1,7 @@
 use Rattle.std.proofs.Common.{◌≡◌}
 use Rattle.stream_reader.specs.Stream.{IsSpent}
 use Rattle.stream_reader.specs.First.{first_of}
-use Rattle.stream_reader.specs.declared.first.First.TheVariants.{Nothing}
+use Rattle.stream_reader.specs.declared.first_note.First.TheVariants.{Nothing}
 use Rattle.stream_reader.proofs.RoomLemmas.{spent_short}
 use Rattle.stream_reader.proofs.reader.Reader.next.Goals as goal
 

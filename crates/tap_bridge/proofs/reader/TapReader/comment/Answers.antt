@@ -1,7 +1,7 @@
 use Rattle.std.proofs.Common.{◌≡◌, true, false, sym, ◌∙◌, map, rules}
 use Rattle.std.specs.Prelude.{codes}
 use Rattle.std.proofs.lemmas.Bool.{cond-true}
-use Rattle.tap_bridge.specs.Grammar.{begins}
+use Rattle.sub_number.specs.Lines.{begins}
 use Rattle.tap_bridge.specs.Events.{input_of}
 use Rattle.tap_bridge.proofs.ReadLemmas.{awaited, not_awaited, comment_read, comment_gives_none}
 use Rattle.tap_bridge.proofs.reader.TapReader.comment.Goals as goal

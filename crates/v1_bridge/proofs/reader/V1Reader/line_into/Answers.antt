@@ -2,7 +2,7 @@ use Rattle.std.proofs.Common.{All, sym, subst}
 use Rattle.std.proofs.lemmas.List.Elements.{All-append}
 use Rattle.packet_codec.specs.Canonical.{Fits}
 use Rattle.v1_bridge.specs.Reading.{line, step}
-use Rattle.v1_bridge.specs.Fitting.{IsShort}
+use Rattle.v1_bridge.specs.Fitting.{IsShortState}
 use Rattle.v1_bridge.specs.Kept.{state_of}
 use Rattle.v1_bridge.proofs.RunLemmas.{given_is, read_push}
 use Rattle.v1_bridge.proofs.FitLemmas.{line_fits_at}
@@ -20,4 +20,4 @@ returns-clause-fits c little before =
     subst (All Fits) (sym c.in_ok-take_line.ensures.given) (All-append Fits c.args.events.now.items (step s (line c.args.line.now)).given before (line_fits_at s c.args.line.now c.requires.short little).given)
 
 pub returns-clause-little : goal.returns-clause-little
-returns-clause-little c little = subst IsShort (sym c.in_ok-take_line.ensures.state) (line_fits_at (state_of c.args.self.now) c.args.line.now c.requires.short little).state
+returns-clause-little c little = subst IsShortState (sym c.in_ok-take_line.ensures.state) (line_fits_at (state_of c.args.self.now) c.args.line.now c.requires.short little).state

@@ -2,7 +2,7 @@ use Rattle.std.proofs.Common.{All, sym, subst}
 use Rattle.std.proofs.lemmas.List.Elements.{All-append}
 use Rattle.packet_codec.specs.Canonical.{Fits}
 use Rattle.v1_bridge.specs.Reading.{piece, step}
-use Rattle.v1_bridge.specs.Fitting.{IsShort}
+use Rattle.v1_bridge.specs.Fitting.{IsShortState}
 use Rattle.v1_bridge.specs.Kept.{state_of}
 use Rattle.v1_bridge.proofs.RunLemmas.{given_is, read_push}
 use Rattle.v1_bridge.proofs.FitLemmas.{piece_fits_at}
@@ -20,4 +20,4 @@ returns-clause-fits c little before =
     subst (All Fits) (sym c.in_ok-take_piece.ensures.given) (All-append Fits c.args.events.now.items (step s (piece c.args.piece.now c.args.last)).given before (piece_fits_at s c.args.piece.now c.args.last c.requires.short little).given)
 
 pub returns-clause-little : goal.returns-clause-little
-returns-clause-little c little = subst IsShort (sym c.in_ok-take_piece.ensures.state) (piece_fits_at (state_of c.args.self.now) c.args.piece.now c.args.last c.requires.short little).state
+returns-clause-little c little = subst IsShortState (sym c.in_ok-take_piece.ensures.state) (piece_fits_at (state_of c.args.self.now) c.args.piece.now c.args.last c.requires.short little).state

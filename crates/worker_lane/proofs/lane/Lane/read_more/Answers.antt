@@ -8,7 +8,7 @@ returns-in-Ok-eq0-clause-same g c =
     let some : 0 < length c.read.new.buf = search rules in
     let none : c.in-Ok-eq0.field-0 ≡ 0 = search rules in
     let ended = ended_if _ (g.C.Child.seen c.args.self.now.child).told c.in-Ok-eq0.field-0 c.read.new.buf some c.in-Ok-eq0.ensures.end none in
-    waited_same _ (g.C.Child.seen c.read.new.self).told _ _ c.args.self.now.course c.close.new.self c.wait_for-ending.result c.in-Ok-eq0.ensures.bytes ended c.wait_for-ending.ensures.same c.wait_for-ending.ensures.told c.close.ensures.left
+    waited_same _ (g.C.Child.seen c.read.new.self).told _ _ c.args.self.now.course c.close.new.self c.wait_for_child-ending.result c.in-Ok-eq0.ensures.bytes ended c.wait_for_child-ending.ensures.same c.wait_for_child-ending.ensures.told c.close.ensures.left
 
 pub returns-in-Ok-clause-same : goal.returns-in-Ok-clause-same
 returns-in-Ok-clause-same g c =
@@ -19,4 +19,4 @@ pub returns-in-Err-clause-same : goal.returns-in-Err-clause-same
 returns-in-Err-clause-same g c =
     let some : 0 < length c.read.new.buf = search rules in
     let broken = broken_if (g.C.Child.seen c.args.self.now.child).told c.in-Err.field-0 c.read.new.buf some c.in-Err.ensures.end in
-    failed_same _ (g.C.Child.seen c.read.new.self).told _ c.args.self.now.course c.close-in-Err.new.self c.in-Err.ensures.bytes broken c.stop.ensures.finish c.close-in-Err.ensures.left
+    failed_same _ (g.C.Child.seen c.read.new.self).told _ c.args.self.now.course c.close-in-Err.new.self c.in-Err.ensures.bytes broken c.stop_child.ensures.finish c.close-in-Err.ensures.left

@@ -1,6 +1,6 @@
 use Rattle.std.proofs.Common.{◌≡◌, ◌-◌, length}
 use Rattle.worker_lane.specs.Lanes.{rest, KeepsLane}
-use Rattle.worker_lane.specs.declared.stage.Stage.TheVariants.{Reading}
+use Rattle.worker_lane.specs.declared.lane_stage.Stage.TheVariants.{Reading}
 use Rattle.worker_lane.proofs.lane.Lane.read_on.Given as goal
 
 -- what is left is as it was

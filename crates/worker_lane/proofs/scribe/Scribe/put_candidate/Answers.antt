@@ -1,5 +1,5 @@
 use Rattle.std.proofs.Common.{refl}
-use Rattle.stream_reader.specs.declared.first.First.TheVariants.{Packet}
+use Rattle.stream_reader.specs.declared.first_note.First.TheVariants.{Packet}
 use Rattle.worker_lane.proofs.RecordingLemmas.{first_note_given}
 use Rattle.worker_lane.proofs.scribe.Scribe.put_candidate.Goals as goal
 

@@ -1,6 +1,6 @@
 use Rattle.std.proofs.Common.{length, refl}
 use Rattle.packet_codec.specs.Sight.{BeginsWithThis}
-use Rattle.stream_reader.specs.declared.first.First.TheVariants.{Packet}
+use Rattle.stream_reader.specs.declared.first_note.First.TheVariants.{Packet}
 use Rattle.worker_lane.proofs.WaitingLemmas.{puts_packet_note}
 use Rattle.worker_lane.proofs.scribe.Scribe.put_where_packet.Goals as goal
 

@@ -19,8 +19,8 @@ loop-preserved g c = record {
   loan = search rules;
   goes = goes_then _ _ _ _ _ _ c.loop.invariant.goes c.take_one.ensures.goes;
   settled = search rules;
-  pass = c.drive-outcome.ensures.ready;
-  drives = λ before drives. drives_then g.C.Child.seen before c.in-Kept.work c.drive-outcome.result (subst (Drives g.C.Child.seen before) c.in-Kept.is (c.loop.invariant.drives before drives)) c.drive-outcome.ensures.drives;
+  pass = c.drive_work-outcome.ensures.ready;
+  drives = λ before drives. drives_then g.C.Child.seen before c.in-Kept.work c.drive_work-outcome.result (subst (Drives g.C.Child.seen before) c.in-Kept.is (c.loop.invariant.drives before drives)) c.drive_work-outcome.ensures.drives;
 }
 
 pub returns-in-GivenUp-clause-goes : goal.returns-in-GivenUp-clause-goes

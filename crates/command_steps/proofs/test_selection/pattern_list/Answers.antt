@@ -1,0 +1,10 @@
+use Rattle.std.proofs.Common.{Some, refl, sym, ap, ◌∙◌}
+use Rattle.command_steps.specs.Perhaps.{did}
+use Rattle.command_steps.proofs.SelectLemmas.{perhaps_stops}
+use Rattle.command_steps.proofs.test_selection.pattern_list.Goals as goal
+
+pub returns-in_err-read_pattern_list-in-Some : goal.returns-in_err-read_pattern_list-in-Some
+returns-in_err-read_pattern_list-in-Some g c = perhaps_stops c.name_of.result.now _ (c.in-Some.is ∙ ap Some (sym c.name_of.ensures)) c.from_residual.ensures.1 c.in_err-read_pattern_list-in-Some.ensures.step
+
+pub returns-in_ok-read_pattern_list-in-Some : goal.returns-in_ok-read_pattern_list-in-Some
+returns-in_ok-read_pattern_list-in-Some g c = did c.name_of.result.now _ (c.in-Some.is ∙ ap Some (sym c.name_of.ensures)) refl c.in_ok-read_pattern_list-in-Some.ensures.step

@@ -1,5 +1,0 @@
-use Rattle.filter_cli.proofs.ExportLemmas.{stream_records}
-use Rattle.filter_cli.proofs.exporting.records_of_streams.Goals as goal
-
-pub returns : goal.returns
-returns c = stream_records

@@ -1,0 +1,18 @@
+use Rattle.std.proofs.Common.{Ok, Err}
+use Rattle.filter_cli.specs.declared.request.Asked.TheVariants as wanted
+use Rattle.filter_cli.specs.Pipe.{pipe}
+use Rattle.filter_cli.specs.Steps.{goes_on}
+use Rattle.filter_cli.proofs.ChainLemmas.{checked, none_given, stopped, gives, attaches_as}
+use Rattle.filter_cli.proofs.filters_call.attach.Goals as goal
+
+pub returns-in_err-end : goal.returns-in_err-end
+returns-in_err-end g c =
+    let a = pipe (g.I.Source.seen c.args.input.now) (g.O.Sink.seen c.args.out.now) in
+    let b = pipe (g.I.Source.seen c.attach_stream.new.input) (g.O.Sink.seen c.attach_stream.new.out) in
+    checked (wanted.Output c.args.job) a b _ none_given (stopped c.in_err-end.field-0.0 c.from_residual.ensures.1 (attaches_as c.args.job a b (Err c.in_err-end.field-0.0) c.requires c.in_err-end.ensures.pumps))
+
+pub returns : goal.returns
+returns g c =
+    let a = pipe (g.I.Source.seen c.args.input.now) (g.O.Sink.seen c.args.out.now) in
+    let b = pipe (g.I.Source.seen c.attach_stream.new.input) (g.O.Sink.seen c.attach_stream.new.out) in
+    checked (wanted.Output c.args.job) a b _ none_given (goes_on _ _ (attaches_as c.args.job a b (Ok c.in_ok-end.end) c.requires c.in_ok-end.ensures.pumps) gives)

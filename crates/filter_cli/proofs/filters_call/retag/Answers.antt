@@ -1,0 +1,18 @@
+use Rattle.std.proofs.Common.{Ok, Err}
+use Rattle.filter_cli.specs.declared.request.Asked.TheVariants as wanted
+use Rattle.filter_cli.specs.Pipe.{pipe}
+use Rattle.filter_cli.specs.Steps.{goes_on}
+use Rattle.filter_cli.proofs.ChainLemmas.{checked, none_given, stopped, gives, plan_as, tags_is}
+use Rattle.filter_cli.proofs.filters_call.retag.Goals as goal
+
+pub returns-in_err-end : goal.returns-in_err-end
+returns-in_err-end g c =
+    let a = pipe (g.I.Source.seen c.args.input.now) (g.O.Sink.seen c.args.out.now) in
+    let b = pipe (g.I.Source.seen c.tag_stream.new.input) (g.O.Sink.seen c.tag_stream.new.out) in
+    checked (wanted.Tags c.args.retagging) a b _ none_given (stopped c.in_err-end.field-0.0 c.from_residual.ensures.1 (plan_as _ _ a b (Err c.in_err-end.field-0.0) (tags_is c.new-tagger.result _ _ c.new-tagger.ensures.add c.new-tagger.ensures.remove) c.in_err-end.ensures.pumps))
+
+pub returns : goal.returns
+returns g c =
+    let a = pipe (g.I.Source.seen c.args.input.now) (g.O.Sink.seen c.args.out.now) in
+    let b = pipe (g.I.Source.seen c.tag_stream.new.input) (g.O.Sink.seen c.tag_stream.new.out) in
+    checked (wanted.Tags c.args.retagging) a b _ none_given (goes_on _ _ (plan_as _ _ a b (Ok c.in_ok-end.end) (tags_is c.new-tagger.result _ _ c.new-tagger.ensures.add c.new-tagger.ensures.remove) c.in_ok-end.ensures.pumps) gives)

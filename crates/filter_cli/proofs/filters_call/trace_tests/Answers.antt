@@ -1,0 +1,17 @@
+use Rattle.filter_cli.specs.declared.request.Asked.TheVariants as wanted
+use Rattle.filter_cli.specs.Pipe.{pipe}
+use Rattle.filter_cli.specs.Steps.{goes_on}
+use Rattle.filter_cli.proofs.ChainLemmas.{checked, none_given, stopped, gives}
+use Rattle.filter_cli.proofs.filters_call.trace_tests.Goals as goal
+
+pub returns-in_err-end : goal.returns-in_err-end
+returns-in_err-end g c =
+    let a = pipe (g.I.Source.seen c.args.input.now) (g.O.Sink.seen c.args.out.now) in
+    let b = pipe (g.I.Source.seen c.trace_stream.new.input) (g.O.Sink.seen c.trace_stream.new.out) in
+    checked (wanted.Tracing c.args.trace) a b _ none_given (stopped c.in_err-end.field-0.0 c.from_residual.ensures.1 c.in_err-end.ensures.pumps)
+
+pub returns : goal.returns
+returns g c =
+    let a = pipe (g.I.Source.seen c.args.input.now) (g.O.Sink.seen c.args.out.now) in
+    let b = pipe (g.I.Source.seen c.trace_stream.new.input) (g.O.Sink.seen c.trace_stream.new.out) in
+    checked (wanted.Tracing c.args.trace) a b _ none_given (goes_on _ _ c.in_ok-end.ensures.pumps gives)

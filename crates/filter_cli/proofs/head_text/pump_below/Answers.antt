@@ -1,0 +1,28 @@
+use Rattle.std.proofs.Common.{[], refl, arith}
+use Rattle.std.proofs.KnownBytes.{Consumes-nil, Appends-nil}
+use Rattle.stream_end.specs.Inside.{ends_inside}
+use Rattle.filter_cli.proofs.PumpLemmas.{stopped_by}
+use Rattle.filter_cli.proofs.BelowLemmas.{below_prefix, nothing_below}
+use Rattle.filter_cli.proofs.head_text.pump_below.Goals as goal
+
+pub returns-in_err-notes-clause-pumps : goal.returns-in_err-notes-clause-pumps
+returns-in_err-notes-clause-pumps g c = stopped_by ends_inside _ _ _ _ _ c.from_residual.ensures.1 (record {
+  front = [];
+  few = omega arith;
+  piece = [];
+  short = omega arith;
+  text = [];
+  moved = record { took = Consumes-nil _; wrote = Appends-nil _ };
+  seen = refl;
+  faults = record { input = refl; out = refl };
+})
+
+pub returns-in_err-notes-clause-prefix : goal.returns-in_err-notes-clause-prefix
+returns-in_err-notes-clause-prefix g c = nothing_below c.args.head.items (g.F.NoteFilter.plan c.args.filter) (g.I.Source.seen c.args.input.now).told (g.O.Sink.seen c.args.out.now).told
+
+pub returns-clause-prefix : goal.returns-clause-prefix
+returns-clause-prefix g c =
+    below_prefix c.args.head.items (g.F.NoteFilter.plan c.args.filter) _ _ _ (rw (c.new-2.ensures.head, c.new-2.ensures.filter, c.in_ok-notes.ensures.filter) at c.pump.ensures.prefix)
+
+pub returns-clause-pumps : goal.returns-clause-pumps
+returns-clause-pumps g c = rw (c.new-2.ensures.head, c.new-2.ensures.filter, c.in_ok-notes.ensures.filter) at c.pump.ensures.pumps

@@ -1,6 +1,0 @@
-use Rattle.std.proofs.Common.{◌++◌}
-use Rattle.filter_cli.proofs.Prefixes.{rest_in_part}
-use Rattle.filter_cli.proofs.telling.tell_behind.Goals as goal
-
-pub returns-clause-prefix : goal.returns-clause-prefix
-returns-clause-prefix g c = rest_in_part c.args.line.front.now (c.args.line.pattern.now ++ c.args.line.end.now) _ c.as_bytes.ensures.value _ _ c.in_ok-write_whole.ensures.whole _ c.tell_pattern.ensures.prefix

@@ -1,4 +1,0 @@
-use Rattle.filter_cli.proofs.top.give.Goals as goal
-
-pub returns : goal.returns
-returns g c = c.give_alone.ensures (g.I.Source.seen c.args.input.now)

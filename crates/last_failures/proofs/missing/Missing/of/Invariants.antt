@@ -1,6 +1,0 @@
-use Rattle.std.proofs.Common.{◌≡◌, take}
-use Rattle.outcome_fold.specs.Order.{in_byte_order}
-use Rattle.last_failures.proofs.missing.Missing.of.Given as goal
-
-abbrev pub invariant-loop-id : goal.invariant-loop-id
-invariant-loop-id l = l.missing ≡ in_byte_order (take l.id-index l.ids)

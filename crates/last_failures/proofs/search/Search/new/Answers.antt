@@ -1,5 +1,0 @@
-use Rattle.last_failures.proofs.FindLemmas.{none_found}
-use Rattle.last_failures.proofs.search.Search.new.Goals as goal
-
-pub returns : goal.returns
-returns c = none_found _ _ _ c.in_ok-of.ensures c.new.ensures

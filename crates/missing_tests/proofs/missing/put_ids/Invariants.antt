@@ -1,8 +1,0 @@
-use Rattle.std.proofs.Common.{◌≡◌, ◌++◌, take}
-use Rattle.std.specs.List.{flat_map}
-use Rattle.missing_tests.specs.Missing.{id_line}
-use Rattle.missing_tests.proofs.missing.put_ids.Given as goal
-
--- the lines of the ids so far
-abbrev pub invariant-loop-id : goal.invariant-loop-id
-invariant-loop-id l = l.text.items ≡ l.fn.text.items ++ flat_map id_line (take l.id-index l.ids)

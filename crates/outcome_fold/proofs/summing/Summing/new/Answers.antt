@@ -1,5 +1,0 @@
-use Rattle.std.proofs.Common.{refl}
-use Rattle.outcome_fold.proofs.summing.Summing.new.Goals as goal
-
-pub returns : goal.returns
-returns c = record { tags = refl; started = c.new.ensures; sums = c.new-2.ensures c.args.filter_tags }

@@ -1,7 +1,0 @@
-use Rattle.std.proofs.Common.{take}
-use Rattle.std.specs.List.{AllByRecursion}
-use Rattle.worker_lane.specs.Lost.{AreTexts}
-use Rattle.suite_run.proofs.starting.are_all_texts.Given as goal
-
-abbrev pub invariant-loop-ids : goal.invariant-loop-ids
-invariant-loop-ids l = AllByRecursion AreTexts (take l.ids-index l.asked)
