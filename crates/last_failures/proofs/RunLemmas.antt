@@ -10,8 +10,8 @@ use Rattle.stream_reader.proofs.ExistLemmas.{some_notes}
 use Rattle.outcome_fold.specs.declared.row.Row.{Row}
 use Rattle.outcome_fold.specs.Order.{among}
 use Rattle.run_shelf.specs.Holds.{FitsFolder}
-use Rattle.run_shelf.specs.Repository.{Run, run_at, most_runs, Shows, base_of}
-use Rattle.run_shelf.proofs.RunLemmas.{within_items, within_base}
+use Rattle.run_shelf.specs.Repository.{Run, run_at, most_runs, Shows}
+use Rattle.run_shelf.proofs.RunLemmas.{within_items}
 use Rattle.run_shelf.proofs.ShowsLemmas.{kinds_of_runs, shown}
 use Rattle.run_ledger.specs.Costs.{bytes_asked, asked_for_each, ReadsOnce, ReadsFrom}
 use Rattle.run_ledger.proofs.CostLemmas.{asked_less}
@@ -150,21 +150,13 @@ looks_done (Some s) kinds packets total number start before search low high fits
 pub looks_at : (state : Option Folder) (packets : Bool) (total number start : ℕ) (before search : SearchState) → number ≡ start → IfSome state (LooksOn packets total number before search) → IfSome state (LooksOn packets total start before search)
 looks_at state packets total number start before search is so_far = subst (λ (n : ℕ). IfSome state (LooksOn packets total n before search)) is so_far
 
--- all runs behind the base were looked at
-pub all_found : (first before : Option Folder) (kinds kinds_now : List Bool) (packets : Bool) (ids : List (List ℕ)) (count start runs : ℕ) (begun done : SearchState) → start ≡ min count runs → runs ≡ length kinds_now → kinds_now ≡ kinds → IfSome first (FitsFolder kinds)
-    → IfSome first (λ s. count ≡ (base_of s.disk.published).count) → Goes first before Stays → Looks ids [] begun → IfSome before (LooksOn packets (length kinds_now) start begun done)
-    → IfSome first (AreLastFailures packets ids (failures_in done.found))
-all_found None before kinds kinds_now packets ids count start runs begun done least total same_kinds fits counted same begin on = tt
-all_found (Some s) None kinds kinds_now packets ids count start runs begun done least total same_kinds fits counted same begin on = absurd same
-all_found (Some s) (Some t) kinds kinds_now packets ids count start runs begun done least total same_kinds fits counted same begin on =
-    let size : length kinds_now ≡ length kinds = ap length same_kinds in
-    let at : start ≡ (base_of s.disk.published).count = omega (arith, least, total, size, counted, within_base kinds s fits) in
-    let looked : LooksFrom packets ids start done s = subst (LooksFrom packets ids start done) same (on ids (subst (LooksFrom packets ids (length kinds_now) begun) (sym same) (begin_back s kinds fits packets ids begun (length kinds_now) size begin))) in
-    record {
-      events = looked.events;
-      behind = subst (λ (n : ℕ). ShowEventsFrom s.disk.published n looked.events) at looked.behind;
-      found_are = looked.looks.found_are;
-    }
+-- all runs were looked at
+pub all_found : (state : Option Folder) (kinds : List Bool) (packets : Bool) (ids : List (List ℕ)) (begun done : SearchState) → IfSome state (FitsFolder kinds) → Looks ids [] begun → IfSome state (LooksOn packets (length kinds) 0 begun done)
+    → IfSome state (AreLastFailures packets ids (failures_in done.found))
+all_found None kinds packets ids begun done fits begin on = tt
+all_found (Some s) kinds packets ids begun done fits begin on =
+    let looked : LooksFrom packets ids 0 done s = on ids (begin_back s kinds fits packets ids begun (length kinds) refl begin) in
+    record { events = looked.events; shown = looked.behind; found_are = looked.looks.found_are }
 
 -- ---- how many calls it takes
 
@@ -186,17 +178,3 @@ costs_one (Some s) (Some t) kinds number next began old now is below fits same s
 pub costs_back : (state : Option Folder) (number start before now : ℕ) → start ≤ number → IfSome state (ReadsFrom number before now) → IfSome state (ReadsFrom start before now)
 costs_back None number start before now low so_far = tt
 costs_back (Some s) number start before now low so_far = λ runs shows. omega (arith, so_far runs shows, asked_less runs start number low)
-
--- behind the calls that read the base
-pub costs_base : (first before : Option Folder) (kinds : List Bool) (count start runs began middle now : ℕ) → start ≡ min count runs → IfSome first (λ s. count ≡ (base_of s.disk.published).count) → runs ≡ length kinds → IfSome first (FitsFolder kinds) → middle ≤ began + 3 → Goes first before Stays → IfSome before (ReadsFrom start middle now)
-    → IfSome first (λ s. ReadsFrom (base_of s.disk.published).count (began + 3) now s)
-costs_base None before kinds count start runs began middle now least counted total fits ticks same reads = tt
-costs_base (Some s) None kinds count start runs began middle now least counted total fits ticks same reads = absurd same
-costs_base (Some s) (Some t) kinds count start runs began middle now least counted total fits ticks same reads = λ all shows.
-    let at : start ≡ (base_of s.disk.published).count = omega (arith, least, total, counted, within_base kinds s fits) in
-    let here : ReadsFrom start middle now s = subst (ReadsFrom start middle now) same reads in
-    omega (arith, ticks, here all shows, ap (λ (n : ℕ). asked_for_each (drop n all)) at)
-
-pub costs_base_alone : (state : Option Folder) (began now : ℕ) → now ≤ began + 3 → IfSome state (λ s. ReadsFrom (base_of s.disk.published).count (began + 3) now s)
-costs_base_alone None began now ticks = tt
-costs_base_alone (Some s) began now ticks = λ all shows. omega (arith, ticks)

@@ -11,7 +11,7 @@ use Rattle.outcome_fold.specs.declared.row.Row.{Row}
 use Rattle.outcome_fold.specs.Answers.{row_fails}
 use Rattle.outcome_fold.specs.Order.{text_cmp, among}
 use Rattle.outcome_fold.specs.Rows.{rows_of}
-use Rattle.run_shelf.specs.Repository.{Run, Shows, base_of}
+use Rattle.run_shelf.specs.Repository.{Run, Shows}
 use Rattle.last_failures.specs.declared.failures.Failure.{Failure}
 use Rattle.last_failures.specs.declared.failures.LastFailures.{LastFailures}
 use Rattle.last_failures.specs.Parts.{failure_packets}
@@ -59,9 +59,8 @@ pub record ShowEventsFrom (files : Files) (number : ℕ) (events : List (List Ev
   pub shown : Shows files runs
   pub are : AreRunEvents (drop number runs) events
 
--- What was found is, of each of the ids, its last failure in the runs of the folder that the base does not count, with its
--- packets, where they are wanted.
+-- What was found is, of each of the ids, its last failure in all runs of the folder, with its packets, where they are wanted.
 pub record AreLastFailures (packets : Bool) (ids : List (List ℕ)) (found : FinMap text_cmp Failure) (s : Folder) : Type 0 where
   pub events : List (List Event)
-  pub behind : ShowEventsFrom s.disk.published (base_of s.disk.published).count events
+  pub shown : ShowEventsFrom s.disk.published 0 events
   pub found_are : (id : List ℕ) → among ids id ≡ true → fin.get found id ≡ last_failure (failures_of_runs packets events) id

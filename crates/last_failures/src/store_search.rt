@@ -1,8 +1,6 @@
 //! The runs of a store, from the last one back.
 
-ghost use Rattle.std.specs.Prelude.{◌≡◌, ◌<◌, ◌≤◌, ◌+◌, [], None, length, min, IfSome, IfOk, OnOk, if◌then◌else◌};
-ghost use Rattle.run_shelf.specs.Outcomes.{TicksUpTo};
-ghost use Rattle.run_shelf.specs.Repository.{base_of};
+ghost use Rattle.std.specs.Prelude.{◌≡◌, ◌<◌, ◌+◌, [], None, length, IfSome, IfOk, OnOk, if◌then◌else◌};
 ghost use Rattle.run_shelf.specs.Stores.{store_kinds, store_fault, FitsUnlessBroken, seen_store};
 ghost use Rattle.run_ledger.specs.Costs.{ReadsFrom, ReadsOnce};
 ghost use Rattle.run_ledger.specs.Outcomes.{LedgerReads};
@@ -16,14 +14,14 @@ use crate::run_parts::RunFailures;
 use crate::runs::read_run;
 use crate::search_state::SearchState;
 use edge_io::Shelf;
-use run_ledger::LedgerFault;
+use run_ledger::{LedgerFault, check_open};
 use run_shelf::Store;
 use std::alloc::Global;
 use sub_number::IdList;
 
-/// How each of the ids failed last, in the runs that the base does not count, with the packets of the part that failed, where
-/// they are wanted. Such a row may be of each id or of none, and of other ids nothing is said. The runs are read from the last
-/// one back, each once, until each id has its row. Nothing changes in the folder.
+/// How each of the ids failed last, with the packets of the part that failed, where they are wanted. Such a row may be of each
+/// id or of none, and of other ids nothing is said. The runs are read from the last one back, each once, until each id has its
+/// row: those, too, that another program had recorded before the folder was taken over. Nothing changes in the folder.
 ///
 /// Of packets no more are held than those of the parts of ids that have no row yet, of each test the open one and the last one
 /// that failed, and those that were found.
@@ -40,45 +38,30 @@ pub fn last_failures<H: Shelf>(
     ensures same_reference { store.new.shelf.ghost_name ≡ store.old.shelf.ghost_name }
     ensures found { IfOk result (λ found. IfSome (H.seen store.old.shelf.now).told (AreLastFailures packets ids.now (failures_in found))) }
     ensures reads { LedgerReads (seen_store store.old (H.seen store.old.shelf.now)) (seen_store store.new (H.seen store.new.shelf.now)) result }
-    ensures time { IfSome (H.seen store.old.shelf.now).told (λ s. ReadsFrom (base_of s.disk.published).count (H.clock store.old.shelf.now + 3) (H.clock store.new.shelf.now) s) }
+    ensures time { IfSome (H.seen store.old.shelf.now).told (ReadsFrom 0 (H.clock store.old.shelf.now) (H.clock store.new.shelf.now)) }
 {
-    let count = base_count(alloc, store)?;
+    check_open(store)?;
     let mut search = SearchState::new(alloc, ids)?;
-    let start = least(count, store.runs());
-    read_back(alloc, store, &mut search, start, packets)?;
+    read_back(alloc, store, &mut search, packets)?;
     Ok(search.found)
 }
 
-// How many runs the base counts.
-fn base_count<H: Shelf>(alloc: Global, store: &mut Store<'_, H>) -> Result<u32, LedgerFault>
-    requires fits { FitsUnlessBroken (store_kinds store.old) (store_fault store.old) (H.seen store.old.shelf.now).told }
-    ensures same_reference { store.new.shelf.ghost_name ≡ store.old.shelf.ghost_name }
-    ensures open { IfOk result (λ count. store_fault store.old ≡ None) }
-    ensures count { IfOk result (λ count. IfSome (H.seen store.old.shelf.now).told (λ s. count ≡ (base_of s.disk.published).count)) }
-    ensures reads { LedgerReads (seen_store store.old (H.seen store.old.shelf.now)) (seen_store store.new (H.seen store.new.shelf.now)) result }
-    ensures time { TicksUpTo 3 (H.clock store.old.shelf.now) (H.clock store.new.shelf.now) }
-{
-    Ok(store.base(alloc)?.count)
-}
-
-// Looks at the rows of the runs from the last one back to this one, until each id has its row.
+// Looks at the rows of the runs from the last one back, until each id has its row.
 fn read_back<H: Shelf>(
     alloc: Global,
     store: &mut Store<'_, H>,
     search: &mut SearchState,
-    start: u32,
     packets: bool,
 ) -> Result<(), LedgerFault>
     requires fits { FitsUnlessBroken (store_kinds store.old) (store_fault store.old) (H.seen store.old.shelf.now).told }
     requires open { store_fault store.old ≡ None }
-    requires few { start ≤ length (store_kinds store.old) }
     ensures same_reference { store.new.shelf.ghost_name ≡ store.old.shelf.ghost_name }
-    ensures found { OnOk result (IfSome (H.seen store.old.shelf.now).told (LooksOn packets (length (store_kinds store.old)) start search.old search.new)) }
+    ensures found { OnOk result (IfSome (H.seen store.old.shelf.now).told (LooksOn packets (length (store_kinds store.old)) 0 search.old search.new)) }
     ensures reads { LedgerReads (seen_store store.old (H.seen store.old.shelf.now)) (seen_store store.new (H.seen store.new.shelf.now)) result }
-    ensures time { IfSome (H.seen store.old.shelf.now).told (ReadsFrom start (H.clock store.old.shelf.now) (H.clock store.new.shelf.now)) }
+    ensures time { IfSome (H.seen store.old.shelf.now).told (ReadsFrom 0 (H.clock store.old.shelf.now) (H.clock store.new.shelf.now)) }
 {
     let mut number = store.runs();
-    while number > start {
+    while number > 0 {
         if search.is_done() {
             return Ok(());
         }
@@ -130,11 +113,4 @@ fn read_wanted<H: Shelf>(
     } else {
         read_run(alloc, store, number, &IdsWithoutRow::none(alloc))
     }
-}
-
-// The lesser one.
-fn least(count: u32, runs: u32) -> u32
-    ensures { result ≡ min count runs }
-{
-    if count < runs { count } else { runs }
 }

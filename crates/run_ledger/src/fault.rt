@@ -57,7 +57,9 @@ impl From<NoMemory> for LedgerFault {
     }
 }
 
-/// Refuses a store that is closed.
+/// Refuses a store that is closed, with the call that failed.
+///
+/// `Store` comes exactly where a call of the folder had failed before. Nothing is done.
 pub fn check_open<H: Shelf>(store: &Store<'_, H>) -> Result<(), LedgerFault>
     ensures open { OnOk result (store_fault store.now ≡ None) }
     ensures closed { IfErr result (λ fault. IsSomeAnd (store_fault store.now) (λ call. fault ≡ StoreRefused (Closed call))) }

@@ -47,7 +47,7 @@ pub use cache_laws::{caches_hold_one_thing, what_keeps_files_sound};
 pub use cached_failing::failing;
 pub use cached_times::times;
 pub use failing_cache::{FailingCache, read_failing_cache, write_failing_cache};
-pub use fault::LedgerFault;
+pub use fault::{LedgerFault, check_open};
 pub use fresh_caches::{refresh, refresh_behind};
 pub use lane_laws::lanes_are_read_in_turn;
 pub use laws::runs_have_one_list_of_rows;

@@ -1,16 +1,14 @@
 //! The tests that began to run on a lane of a stored run.
 
-ghost use Rattle.std.specs.Prelude.{◌≡◌, ◌<◌, ℕ, [], None, length, vec_len, IfSome, IfErr, IfOk, IsSomeAnd, OnOk};
+ghost use Rattle.std.specs.Prelude.{◌≡◌, ◌<◌, ℕ, [], None, length, vec_len, IfSome, IfOk, OnOk};
 ghost use Rattle.run_ledger.specs.Outcomes.{LedgerReads};
-ghost use Rattle.run_ledger.specs.declared.fault.LedgerFault.TheVariants.{Store as StoreRefused};
 ghost use Rattle.run_shelf.specs.Stores.{store_kinds, store_fault, FitsUnlessBroken, seen_store};
-ghost use Rattle.run_shelf.specs.declared.faults.StoreFault.TheVariants.{Closed};
 ghost use Rattle.suite_causes.specs.Ran.{HasRanIds, HasRanAt, HasRanIdsOfRun, HasRoomForRanIds, ReadsRanIdsOn};
 
 use crate::ran_reader::RanReader;
 use edge_io::Shelf;
-use run_ledger::LedgerFault;
-use run_shelf::{Store, StoreFault};
+use run_ledger::{LedgerFault, check_open};
+use run_shelf::Store;
 use std::alloc::Global;
 use sub_number::{IdList, NoMemory};
 
@@ -44,17 +42,6 @@ const PIECE: u64 = 65_536;
 
 // A file has fewer than 2^63 bytes, so fewer pieces than these.
 const MOST_PIECES: u64 = 1 << 47;
-
-// Refuses a store that is closed.
-fn check_open<H: Shelf>(store: &Store<'_, H>) -> Result<(), LedgerFault>
-    ensures is_open { OnOk result (store_fault store.now ≡ None) }
-    ensures closed { IfErr result (λ fault. IsSomeAnd (store_fault store.now) (λ call. fault ≡ StoreRefused (Closed call))) }
-{
-    match store.fault() {
-        None => Ok(()),
-        Some(call) => Err(LedgerFault::Store(StoreFault::Closed(call))),
-    }
-}
 
 // Room for one piece.
 fn piece_buffer(alloc: Global) -> Result<Vec<u8>, NoMemory>

@@ -7,7 +7,6 @@ use Rattle.last_failures.proofs.store_search.read_back.Goals as goal
 
 pub loop-number-init : goal.loop-number-init
 loop-number-init g c = record {
-  low = omega (arith, c.requires.few, c.runs-number.ensures);
   high = omega (arith, c.runs-number.ensures);
   found = looks_at _ _ _ _ _ _ _ (sym c.runs-number.ensures) (nothing_looked _ c.args.packets (length (store_kinds c.args.store.now)) c.args.search.now);
   same_reference = refl;
@@ -33,7 +32,6 @@ loop-number-preserved g c =
     let below : next < length (store_kinds c.args.store.now) = omega (arith, c.loop-number-test.true, before.high) in
     let fits = c.requires.fits c.requires.open in
     record {
-      low = omega (arith, c.loop-number-test.true);
       high = omega (arith, before.high);
       found = looks_then _ _ _ _ _ next _ _ _ _ before.reads.same (sym one_less) before.found step.found;
       same_reference = step.same_reference ∙ before.same_reference;
@@ -44,10 +42,10 @@ loop-number-preserved g c =
 pub returns-then-is_done-clause-found : goal.returns-then-is_done-clause-found
 returns-then-is_done-clause-found g c =
     let before = c.loop-number.invariant in
-    looks_done _ _ _ _ c.loop-number.number _ _ _ before.low before.high (c.requires.fits c.requires.open) (c.is_done.ensures c.if-is_done.true) before.found
+    looks_done _ _ _ _ c.loop-number.number _ _ _ (omega arith) before.high (c.requires.fits c.requires.open) (c.is_done.ensures c.if-is_done.true) before.found
 
 pub returns-then-is_done-clause-time : goal.returns-then-is_done-clause-time
-returns-then-is_done-clause-time g c = costs_back _ c.loop-number.number _ _ _ c.loop-number.invariant.low c.loop-number.invariant.time
+returns-then-is_done-clause-time g c = costs_back _ c.loop-number.number _ _ _ (omega arith) c.loop-number.invariant.time
 
 pub returns-in_err-take_run-clause-reads : goal.returns-in_err-take_run-clause-reads
 returns-in_err-take_run-clause-reads g c =
@@ -59,10 +57,10 @@ returns-in_err-take_run-clause-time g c =
     let next = c.loop-number.number - 1 in
     let one_less : c.loop-number.number ≡ next + 1 = omega (arith, c.loop-number-test.true) in
     let below : next < length (store_kinds c.args.store.now) = omega (arith, c.loop-number-test.true, before.high) in
-    costs_back _ next _ _ _ (omega (arith, c.loop-number-test.true)) (costs_one _ _ _ next _ _ _ _ one_less below (c.requires.fits c.requires.open) before.reads.same before.time c.in_err-take_run.ensures.time)
+    costs_back _ next _ _ _ (omega arith) (costs_one _ _ _ next _ _ _ _ one_less below (c.requires.fits c.requires.open) before.reads.same before.time c.in_err-take_run.ensures.time)
 
 pub returns-clause-found : goal.returns-clause-found
-returns-clause-found g c = looks_at _ _ _ c.loop-number.number _ _ _ (omega (arith, c.loop-number-test.false, c.loop-number.invariant.low)) c.loop-number.invariant.found
+returns-clause-found g c = looks_at _ _ _ c.loop-number.number _ _ _ (omega (arith, c.loop-number-test.false)) c.loop-number.invariant.found
 
 pub returns-clause-time : goal.returns-clause-time
-returns-clause-time g c = costs_back _ c.loop-number.number _ _ _ c.loop-number.invariant.low c.loop-number.invariant.time
+returns-clause-time g c = costs_back _ c.loop-number.number _ _ _ (omega arith) c.loop-number.invariant.time

@@ -8,7 +8,6 @@ use Rattle.last_failures.proofs.store_search.read_back.Given as goal
 -- The runs from this number on were looked at; each was read once; and the store is as it was.
 abbrev pub invariant-loop-number : goal.invariant-loop-number
 invariant-loop-number g l = record {
-  low : l.fn.start ≤ l.number;
   high : l.number ≤ length (store_kinds l.fn.store);
   found : IfSome (g.H.Shelf.seen l.fn.store.shelf.now).told (LooksOn l.packets (length (store_kinds l.fn.store)) l.number l.fn.search l.search);
   same_reference : l.store.shelf.ghost_name ≡ l.fn.store.shelf.ghost_name;
