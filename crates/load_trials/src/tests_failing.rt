@@ -37,10 +37,10 @@ const OF_THREE: &[u8] =
     b"======================================================================\nFAIL: a%\n::b\n----------------------------------------------------------------------\n  File \"x.py\", line 3\n  File \"y,z.py\", line 40\n======================================================================\nUNFINISHED: c\n----------------------------------------------------------------------\n======================================================================\nUNEXPECTED SUCCESS: d\n----------------------------------------------------------------------\nfailures=3\n";
 
 const OF_BASE: &[u8] =
-    b"======================================================================\nFAIL: foo\n----------------------------------------------------------------------\nfailures=1\n";
+    b"======================================================================\nFAIL: foo\n----------------------------------------------------------------------\nold\n======================================================================\nFAIL: gone\n----------------------------------------------------------------------\nfailures=2\n";
 
 const OF_BASE_AND_RUN: &[u8] =
-    b"======================================================================\nFAIL: b\n----------------------------------------------------------------------\ntwo\n======================================================================\nUNFINISHED: c\n----------------------------------------------------------------------\n======================================================================\nUNEXPECTED SUCCESS: d\n----------------------------------------------------------------------\n======================================================================\nFAIL: foo\n----------------------------------------------------------------------\nfailures=4\n";
+    b"======================================================================\nFAIL: b\n----------------------------------------------------------------------\ntwo\n======================================================================\nUNFINISHED: c\n----------------------------------------------------------------------\n======================================================================\nUNEXPECTED SUCCESS: d\n----------------------------------------------------------------------\n======================================================================\nFAIL: foo\n----------------------------------------------------------------------\nold\n======================================================================\nFAIL: gone\n----------------------------------------------------------------------\nfailures=5\n";
 
 // The packets of the parts that failed last, each under the route of its run.
 const PACKETS_OF_FULL: &[u8] =
@@ -52,8 +52,9 @@ const PACKETS_OF_BOTH: &[u8] =
 const PACKETS_OF_THREE: &[u8] =
     b"\xb3\x2d\x66\x40\x56\x06\x61\x25\x0a\x3a\x3a\x62\x0a\x74\x65\x78\x74\x2f\x70\x6c\x61\x69\x6e\x09\x74\x72\x61\x63\x65\x62\x61\x63\x6b\x2e\x20\x20\x46\x69\x6c\x65\x20\x22\x78\x2e\x70\x79\x22\x2c\x20\x6c\x69\x6e\x65\x20\x33\x0a\x20\x20\x46\x69\x6c\x65\x20\x22\x79\x2c\x7a\x2e\x70\x79\x22\x2c\x20\x6c\x69\x6e\x65\x20\x34\x30\x01\x30\x03\x44\x4c\xf2\xb3\x2d\x02\x0c\x01\x63\x01\x30\xd6\xe6\x09\x8a\xb3\x2d\x04\x0c\x01\x64\x01\x30\x05\xf0\xfc\x12";
 
-const PACKETS_OF_RUN: &[u8] =
-    b"\xb3\x2d\x66\x25\x01\x62\x0a\x74\x65\x78\x74\x2f\x70\x6c\x61\x69\x6e\x09\x74\x72\x61\x63\x65\x62\x61\x63\x6b\x03\x74\x77\x6f\x01\x30\xd5\x51\xbd\x54\xb3\x2d\x02\x0c\x01\x63\x01\x30\xd6\xe6\x09\x8a\xb3\x2d\x04\x0c\x01\x64\x01\x30\x05\xf0\xfc\x12";
+// Those of the runs from before and of one behind them.
+const PACKETS_OF_BASE_AND_RUN: &[u8] =
+    b"\xb3\x2d\x66\x25\x01\x62\x0a\x74\x65\x78\x74\x2f\x70\x6c\x61\x69\x6e\x09\x74\x72\x61\x63\x65\x62\x61\x63\x6b\x03\x74\x77\x6f\x01\x30\xd5\x51\xbd\x54\xb3\x2d\x02\x0c\x01\x63\x01\x30\xd6\xe6\x09\x8a\xb3\x2d\x04\x0c\x01\x64\x01\x30\x05\xf0\xfc\x12\xb3\x2d\x66\x27\x03\x66\x6f\x6f\x0a\x74\x65\x78\x74\x2f\x70\x6c\x61\x69\x6e\x09\x74\x72\x61\x63\x65\x62\x61\x63\x6b\x03\x6f\x6c\x64\x01\x30\xc3\x1c\xb9\x16";
 
 const FAILING_FULL: &[&str] = &["testr", "failing", "--full"];
 
@@ -104,16 +105,13 @@ fn each_failing_test_is_told_as_it_failed_last(rt: HostRuntime) -> Result<(), Fa
     tells_of_runs(&rt, &mut shelf)
 }
 
-// What a run from before says of a test is not told: it stands in the base alone.
+// `foo` failed in a run from before, and no run says how `gone` did.
+const BASE: &[u8] = b"subunit-base 1\n1\nfoo\0gone\0";
+
 #[test]
-fn a_failure_of_the_base_is_told_without_a_text(rt: HostRuntime) -> Result<(), Fail> {
+fn a_failure_of_the_base_is_told_as_its_runs_have_it(rt: HostRuntime) -> Result<(), Fail> {
     let mut shelf = of_format(rt.alloc(), BASED)?;
-    put(
-        rt.alloc(),
-        &mut shelf,
-        b"base.set",
-        b"subunit-base 1\n1\nfoo\0",
-    )?;
+    put(rt.alloc(), &mut shelf, b"base.set", BASE)?;
     put(rt.alloc(), &mut shelf, b"0.part", OLD)?;
     assert!(rt; tells_failing(&rt, &mut shelf, FAILING_FULL, 1, OF_BASE)?);
     adds(&rt, &mut shelf, &["testr", "load", "--partial"], PARTIAL)?;
@@ -141,19 +139,13 @@ fn each_failing_test_is_printed_as_it_failed_last(rt: HostRuntime) -> Result<(),
     tells_packets_of_runs(&rt, &mut shelf)
 }
 
-// An id that stands in the base alone has no packet.
 #[test]
-fn a_failure_of_the_base_has_no_packet(rt: HostRuntime) -> Result<(), Fail> {
+fn a_failure_of_the_base_has_the_packets_of_its_run(rt: HostRuntime) -> Result<(), Fail> {
     let mut shelf = of_format(rt.alloc(), BASED)?;
-    put(
-        rt.alloc(),
-        &mut shelf,
-        b"base.set",
-        b"subunit-base 1\n1\nfoo\0",
-    )?;
+    put(rt.alloc(), &mut shelf, b"base.set", BASE)?;
     put(rt.alloc(), &mut shelf, b"0.part", OLD)?;
-    assert!(rt; tells_failing(&rt, &mut shelf, FAILING_SUBUNIT, 0, NOTHING)?);
+    assert!(rt; tells_failing(&rt, &mut shelf, FAILING_SUBUNIT, 0, OLD)?);
     adds(&rt, &mut shelf, &["testr", "load", "--partial"], PARTIAL)?;
-    assert!(rt; tells_failing(&rt, &mut shelf, FAILING_SUBUNIT, 0, PACKETS_OF_RUN)?);
+    assert!(rt; tells_failing(&rt, &mut shelf, FAILING_SUBUNIT, 0, PACKETS_OF_BASE_AND_RUN)?);
     Ok(())
 }
