@@ -14,8 +14,8 @@ use Rattle.filter_cli.specs.ScriptLaws.{given_then}
 use Rattle.filter_cli.specs.Noted.{HasFiltered}
 
 -- what a filter of notes has written of the bytes fed is the text that they decide
-pub plan_seen : (takes : List Note → Type 0) (plan : Plan) (held fed shown : List ℕ) → HasFiltered takes plan held fed shown → IsSeen plan fed shown
-plan_seen takes plan held fed shown h = record { notes = h.notes; decided = begin_decided fed held h.notes h.begins h.spent; made = h.made }
+pub plan_seen : (takes : List Note → Type 0) (plan : Plan) (missing : ℕ) (held fed shown : List ℕ) → HasFiltered takes plan missing held fed shown → IsSeen plan fed shown
+plan_seen takes plan missing held fed shown h = record { notes = h.notes; decided = begin_decided fed held h.notes h.begins h.spent; made = h.made }
 
 -- the notes that first bytes decide come first
 notes_first : (bytes more : List ℕ) (notes others : List Note) → AreBytes (bytes ++ more) → HasDecided bytes notes → HasNotes (bytes ++ more) others → (rest : List Note) × (others ≡ notes ++ rest)

@@ -1,18 +1,20 @@
 // A filter of notes as a filter of bytes.
 ghost use Rattle.std.specs.Prelude.{◌≡◌, false};
-ghost use Rattle.stream_end.specs.Inside.{ends_inside as is_inside};
+ghost use Rattle.stream_end.specs.Inside.{ends_inside_behind as is_inside};
 
 use crate::filter::{Filter, StreamEnd};
 use crate::note_taker::take_notes;
 use crate::notes::NoteFilter;
 use std::alloc::Global;
-use stream_end::ends_inside;
+use stream_end::{OpenCharacter, ends_inside};
 use stream_reader::Reader;
 use sub_number::NoMemory;
 
 /// A filter of notes, and the reader that gives it the notes of a stream.
 pub struct ByteFilter<F: NoteFilter> {
     reader: Reader,
+    // The character that the foreign bytes in front of what the reader holds leave open.
+    character: OpenCharacter,
     filter: F,
     ghost open: { reader.ended ≡ false },
 }
@@ -29,21 +31,25 @@ impl<F: NoteFilter> ByteFilter<F> {
         ensures ready { IfOk result (λ made. F.ready made.filter) }
         ensures held { IfOk result (λ made. length made.reader.bytes ≤ most_held) }
         ensures filter { IfOk result (λ made. made.filter ≡ filter) }
-        ensures has { IfOk result (λ made. HasFiltered (F.has made.filter) (F.plan made.filter) made.reader.bytes [] []) }
+        ensures has { IfOk result (λ made. HasFiltered (F.has made.filter) (F.plan made.filter) made.character made.reader.bytes [] []) }
     {
         let Ok(reader) = Reader::new(alloc) else {
             filter.let_go();
             return Err(NoMemory);
         };
-        Ok(ByteFilter { reader, filter })
+        Ok(ByteFilter {
+            reader,
+            character: OpenCharacter::none(),
+            filter,
+        })
     }
 }
 
 // Whether the stream ends inside a packet, where it ends behind what the reader holds.
-fn stands_inside(reader: &Reader) -> bool
-    ensures { result ≡ is_inside reader.now.bytes }
+fn stands_inside(reader: &Reader, character: OpenCharacter) -> bool
+    ensures { result ≡ is_inside character reader.now.bytes }
 {
-    ends_inside(reader.front(reader.held()))
+    ends_inside(character, reader.front(reader.held()))
 }
 
 impl<F: NoteFilter> Filter for ByteFilter<F> {
@@ -62,22 +68,28 @@ impl<F: NoteFilter> Filter for ByteFilter<F> {
 
     ghost inside = { ends_inside };
 
-    ghost has = { λ f. HasFiltered (F.has f.filter) (F.plan f.filter) f.reader.bytes };
+    ghost has = { λ f. HasFiltered (F.has f.filter) (F.plan f.filter) f.character f.reader.bytes };
 
     fn feed(&mut self, piece: &[u8], text: &mut Vec<u8>) -> Result<(), NoMemory> {
         self.reader.feed(piece);
-        take_notes(&mut self.reader, &mut self.filter, text)?;
+        take_notes(
+            &mut self.reader,
+            &mut self.character,
+            &mut self.filter,
+            text,
+        )?;
         Ok(())
     }
 
     fn close(self, text: &mut Vec<u8>) -> Result<StreamEnd, NoMemory> {
         let ByteFilter {
             mut reader,
+            mut character,
             mut filter,
         } = self;
-        let inside = stands_inside(&reader);
+        let inside = stands_inside(&reader, character);
         reader.finish();
-        let Ok(()) = take_notes(&mut reader, &mut filter, text) else {
+        let Ok(()) = take_notes(&mut reader, &mut character, &mut filter, text) else {
             filter.let_go();
             return Err(NoMemory);
         };
@@ -88,12 +100,13 @@ impl<F: NoteFilter> Filter for ByteFilter<F> {
     fn let_go(self) {
         let ByteFilter {
             reader: _reader,
+            character: _,
             filter,
         } = self;
         filter.let_go();
     }
 
-    ghost is_seen = { λ f. plan_seen (F.has f.filter) (F.plan f.filter) f.reader.bytes };
+    ghost is_seen = { λ f. plan_seen (F.has f.filter) (F.plan f.filter) f.character f.reader.bytes };
 
     ghost front = { λ f. plan_front (F.plan f.filter) };
 

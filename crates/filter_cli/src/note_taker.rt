@@ -9,6 +9,7 @@ ghost use Rattle.filter_cli.specs.Noted.{TakesFirstNote, TakesNext, TakesNotes};
 
 use crate::notes::NoteFilter;
 use packet_codec::Header;
+use stream_end::OpenCharacter;
 use stream_reader::{First, Reader, Seen};
 use sub_number::NoMemory;
 
@@ -67,6 +68,7 @@ fn take_first<F: NoteFilter>(
 #[inline(never)]
 fn take_told<F: NoteFilter>(
     reader: &mut Reader,
+    character: &mut OpenCharacter,
     first: First,
     filter: &mut F,
     text: &mut Vec<u8>,
@@ -74,15 +76,15 @@ fn take_told<F: NoteFilter>(
     requires ready { F.ready filter.old }
     requires first { FirstIs reader.old.ended reader.old.bytes first }
     ensures ready { OnOk result (F.ready filter.new) }
-    ensures some { IfOk result (λ some. some ≡ true → TakesNext (F.has filter.old) (F.has filter.new) (F.plan filter.old) reader.old reader.new text.old.items text.new.items) }
-    ensures none { IfOk result (λ some. some ≡ false → IsSpent reader.old.ended reader.old.bytes × (reader.new ≡ reader.old) × (filter.new ≡ filter.old) × (text.new.items ≡ text.old.items)) }
+    ensures some { IfOk result (λ some. some ≡ true → TakesNext (F.has filter.old) (F.has filter.new) (F.plan filter.old) reader.old reader.new character.old character.new text.old.items text.new.items) }
+    ensures none { IfOk result (λ some. some ≡ false → IsSpent reader.old.ended reader.old.bytes × (reader.new ≡ reader.old) × (character.new ≡ character.old) × (filter.new ≡ filter.old) × (text.new.items ≡ text.old.items)) }
     ensures ended { reader.new.ended ≡ reader.old.ended }
     ensures plan { OnOk result (F.plan filter.new ≡ F.plan filter.old) }
 {
     if !take_first(reader, first, filter, text)? {
         return Ok(false);
     }
-    reader.pass(first);
+    character.pass(reader, first);
     Ok(true)
 }
 
@@ -90,6 +92,7 @@ fn take_told<F: NoteFilter>(
 #[inline(always)]
 fn take_candidate<F: NoteFilter>(
     reader: &mut Reader,
+    character: &mut OpenCharacter,
     header: Header,
     sum: u32,
     filter: &mut F,
@@ -98,55 +101,59 @@ fn take_candidate<F: NoteFilter>(
     requires ready { F.ready filter.old }
     requires candidate { IsCandidate reader.old.bytes header sum }
     ensures ready { OnOk result (F.ready filter.new) }
-    ensures some { IfOk result (λ some. some ≡ true → TakesNext (F.has filter.old) (F.has filter.new) (F.plan filter.old) reader.old reader.new text.old.items text.new.items) }
-    ensures none { IfOk result (λ some. some ≡ false → IsSpent reader.old.ended reader.old.bytes × (reader.new ≡ reader.old) × (filter.new ≡ filter.old) × (text.new.items ≡ text.old.items)) }
+    ensures some { IfOk result (λ some. some ≡ true → TakesNext (F.has filter.old) (F.has filter.new) (F.plan filter.old) reader.old reader.new character.old character.new text.old.items text.new.items) }
+    ensures none { IfOk result (λ some. some ≡ false → IsSpent reader.old.ended reader.old.bytes × (reader.new ≡ reader.old) × (character.new ≡ character.old) × (filter.new ≡ filter.old) × (text.new.items ≡ text.old.items)) }
     ensures ended { reader.new.ended ≡ reader.old.ended }
     ensures plan { OnOk result (F.plan filter.new ≡ F.plan filter.old) }
 {
     if let Some(size) = take_packet(reader, header, sum, filter, text)? {
-        reader.pass(First::Packet(size));
+        character.pass(reader, First::Packet(size));
         return Ok(true);
     }
     let first = reader.foreign_front();
-    take_told(reader, first, filter, text)
+    take_told(reader, character, first, filter, text)
 }
 
 // Takes the next note. False comes exactly where there is none.
 #[inline(always)]
 fn take_next<F: NoteFilter>(
     reader: &mut Reader,
+    character: &mut OpenCharacter,
     filter: &mut F,
     text: &mut Vec<u8>,
 ) -> Result<bool, NoMemory>
     requires { F.ready filter.old }
     ensures ready { OnOk result (F.ready filter.new) }
-    ensures some { IfOk result (λ some. some ≡ true → TakesNext (F.has filter.old) (F.has filter.new) (F.plan filter.old) reader.old reader.new text.old.items text.new.items) }
-    ensures none { IfOk result (λ some. some ≡ false → IsSpent reader.old.ended reader.old.bytes × (reader.new ≡ reader.old) × (filter.new ≡ filter.old) × (text.new.items ≡ text.old.items)) }
+    ensures some { IfOk result (λ some. some ≡ true → TakesNext (F.has filter.old) (F.has filter.new) (F.plan filter.old) reader.old reader.new character.old character.new text.old.items text.new.items) }
+    ensures none { IfOk result (λ some. some ≡ false → IsSpent reader.old.ended reader.old.bytes × (reader.new ≡ reader.old) × (character.new ≡ character.old) × (filter.new ≡ filter.old) × (text.new.items ≡ text.old.items)) }
     ensures ended { reader.new.ended ≡ reader.old.ended }
     ensures plan { OnOk result (F.plan filter.new ≡ F.plan filter.old) }
 {
     match reader.first_seen() {
-        Seen::Candidate(header, sum) => take_candidate(reader, header, sum, filter, text),
-        Seen::Told(first) => take_told(reader, first, filter, text),
+        Seen::Candidate(header, sum) => {
+            take_candidate(reader, character, header, sum, filter, text)
+        }
+        Seen::Told(first) => take_told(reader, character, first, filter, text),
     }
 }
 
 /// Takes all notes that can be told of the bytes held, in order.
 pub(crate) fn take_notes<F: NoteFilter>(
     reader: &mut Reader,
+    character: &mut OpenCharacter,
     filter: &mut F,
     text: &mut Vec<u8>,
 ) -> Result<(), NoMemory>
     requires { F.ready filter.old }
     ensures ready { OnOk result (F.ready filter.new) }
-    ensures taken { (notes : List ANote) → F.has filter.old notes → OnOk result (TakesNotes (F.has filter.new) (F.plan filter.old) notes reader.old reader.new text.old.items text.new.items) }
+    ensures taken { (notes : List ANote) → F.has filter.old notes → OnOk result (TakesNotes (F.has filter.new) (F.plan filter.old) notes reader.old reader.new character.old character.new text.old.items text.new.items) }
     ensures held { OnOk result (reader.new.ended ≡ false → length reader.new.bytes ≤ most_held) }
     ensures spent { OnOk result (IsSpent reader.new.ended reader.new.bytes) }
     ensures ended { reader.new.ended ≡ reader.old.ended }
     ensures plan { OnOk result (F.plan filter.new ≡ F.plan filter.old) }
 {
     loop {
-        let more = take_next(reader, filter, text)?;
+        let more = take_next(reader, character, filter, text)?;
         if !more {
             return Ok(());
         }

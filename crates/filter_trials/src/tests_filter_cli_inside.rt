@@ -19,6 +19,12 @@ const DAMAGED: &[u8] = b"\xb3\x29\x03\x0c\x03foo\x45\x9d\xfe\x11";
 // A length that claims more than there is, in front of that packet as it is to be.
 const CLAIMING: &[u8] = b"\xb3\x29\x03\x3c\xb3\x29\x03\x0c\x03foo\x45\x9d\xfe\x10";
 
+// The text `ó el `, in which the signature is the second byte of a character, and the same in front of the packet that tells
+// that `foo` passed.
+const TEXT: &[u8] = b"\xc3\xb3 el ";
+
+const TEXT_AND_FOO: &[u8] = b"\xc3\xb3 el \xb3\x29\x03\x0c\x03foo\x45\x9d\xfe\x10";
+
 // The signature and a byte of the version as a piece of `stdout`, and the same as a line.
 const AS_PIECE: &[u8] = b"\xb3\x21\x40\x12\x06stdout\x02\xb3\x29\x1c\xae\x83\x89";
 
@@ -51,7 +57,7 @@ fn does(alloc: Global, row: &Row) -> bool {
 }
 
 // Each filter that reads packets.
-const INSIDE: [Row; 12] = [
+const INSIDE: [Row; 14] = [
     (&["subunit-ls"], CUT, NO_FAULT, CUT_LISTED, LS_LINE, 0, 1),
     (
         &["subunit-ls", "--no-passthrough"],
@@ -144,6 +150,25 @@ const INSIDE: [Row; 12] = [
         0,
         0,
     ),
+    // Behind a whole character, and behind a packet, in front of which a character was begun.
+    (
+        &["subunit-ls"],
+        b"\xc3\xa9\xb3\x29\x03",
+        NO_FAULT,
+        b"\xc3\xa9\xb3\x29\x03",
+        LS_LINE,
+        0,
+        0,
+    ),
+    (
+        &["subunit-ls"],
+        b"\xc3\xb3\x29\x06\x0c\x03foo\x15\x50\x6f\xa3\xb3\x29\x03",
+        NO_FAULT,
+        b"\xc3foo\n\xb3\x29\x03",
+        LS_LINE,
+        0,
+        1,
+    ),
     // A length in two bytes, of which one is there.
     (
         &["subunit-ls"],
@@ -163,7 +188,7 @@ fn a_stream_that_ends_inside_a_packet_is_told_of(rt: HostRuntime) {
     }
 }
 
-const OUTSIDE: [Row; 9] = [
+const OUTSIDE: [Row; 13] = [
     // A signature alone, and one with a byte of another version.
     (&["subunit-ls"], b"\xb3", NO_FAULT, b"\xb3", b"", 0, 0),
     (
@@ -200,6 +225,35 @@ const OUTSIDE: [Row; 9] = [
         b"\xb3\x29\x03\x07",
         NO_FAULT,
         b"\xb3\x29\x03\x07",
+        b"",
+        0,
+        0,
+    ),
+    // A signature that goes on with a character.
+    (&["subunit-ls"], TEXT, NO_FAULT, TEXT, b"", 0, 0),
+    (
+        &["subunit-filter", "--success"],
+        TEXT_AND_FOO,
+        NO_FAULT,
+        TEXT_AND_FOO,
+        b"",
+        0,
+        0,
+    ),
+    (
+        &["subunit-ls"],
+        b"\xc2\xb3/",
+        NO_FAULT,
+        b"\xc2\xb3/",
+        b"",
+        0,
+        0,
+    ),
+    (
+        &["subunit-filter"],
+        b"\xc3\xb3\x29\x03",
+        NO_FAULT,
+        b"\xc3\xb3\x29\x03",
         b"",
         0,
         0,

@@ -4,6 +4,7 @@ use crate::streams::pieces;
 use edge_io::{Finish, PlanChild};
 use std::alloc::Global;
 use sub_number::{Bytes, Text};
+use trial_events::repeated;
 use worker_lane::{Ending, Lane, Lot, recorded_of_pieces};
 
 // The event that tells of it, under lane 0.
@@ -16,7 +17,7 @@ const FOO_UNDER_0: &[u8] = b"\xb3\x2d\x03\x0e\x03foo\x01\x30\xa4\xaf\xdb\xe0";
 // A stream, what is recorded of its bytes under lane 0, and whether it ends inside a packet.
 type Row = (&'static [u8], &'static [u8], bool);
 
-const ROWS: [Row; 9] = [
+const ROWS: [Row; 18] = [
     // `foo` passed, whole.
     (
         b"\xb3\x29\x03\x0c\x03foo\x45\x9d\xfe\x10",
@@ -67,6 +68,55 @@ const ROWS: [Row; 9] = [
         b"\xb3\x25\x40\x16\x06stdout\x04\xb3\x29\x03\x3c\x01\x30\xec\x41\x8b\x3d\xb3\x2d\x03\x0e\x03foo\x01\x30\xa4\xaf\xdb\xe0",
         true,
     ),
+    // A character of which the second byte is the signature: a text, and the same in front of a whole packet.
+    (
+        b"\xc3\xb3\x20el\x20",
+        b"\xb3\x25\x40\x18\x06stdout\x06\xc3\xb3\x20el\x20\x01\x30\x87\xf2\xd3\x3b",
+        false,
+    ),
+    (
+        b"\xc3\xb3\x20el\x20\xb3\x29\x03\x0c\x03foo\x45\x9d\xfe\x10",
+        b"\xb3\x25\x40\x18\x06stdout\x06\xc3\xb3\x20el\x20\x01\x30\x87\xf2\xd3\x3b\xb3\x2d\x03\x0e\x03foo\x01\x30\xa4\xaf\xdb\xe0",
+        false,
+    ),
+    (
+        b"\xc2\xb3\x2f",
+        b"\xb3\x25\x40\x15\x06stdout\x03\xc2\xb3\x2f\x01\x30\x50\x59\x41\x0b",
+        false,
+    ),
+    // The last two bytes of a character of four.
+    (
+        b"\xf0\x9f\xb3\xb3\x20",
+        b"\xb3\x25\x40\x17\x06stdout\x05\xf0\x9f\xb3\xb3\x20\x01\x30\x2d\xc2\x59\x24",
+        false,
+    ),
+    // The front of a packet behind the first byte of a character, behind a whole one, and behind a byte that begins none.
+    (
+        b"\xc3\xb3\x29\x03",
+        b"\xb3\x25\x40\x16\x06stdout\x04\xc3\xb3\x29\x03\x01\x30\x9c\x6d\x54\xba",
+        false,
+    ),
+    (
+        b"\xc3\xa9\xb3\x29\x03",
+        b"\xb3\x25\x40\x17\x06stdout\x05\xc3\xa9\xb3\x29\x03\x01\x30\x8e\x9c\xfb\x22",
+        true,
+    ),
+    (
+        b"\xc1\xb3\x29\x03",
+        b"\xb3\x25\x40\x16\x06stdout\x04\xc1\xb3\x29\x03\x01\x30\xd1\xa5\xf5\xb1",
+        true,
+    ),
+    // Behind a packet, also where a character was begun in front of that.
+    (
+        b"\xb3\x29\x03\x0c\x03foo\x45\x9d\xfe\x10\xb3\x29\x03",
+        b"\xb3\x2d\x03\x0e\x03foo\x01\x30\xa4\xaf\xdb\xe0\xb3\x25\x40\x15\x06stdout\x03\xb3\x29\x03\x01\x30\x77\x41\x36\x30",
+        true,
+    ),
+    (
+        b"\xc3\xb3\x29\x03\x0c\x03foo\x45\x9d\xfe\x10\xb3\x29\x03",
+        b"\xb3\x25\x40\x13\x06stdout\x01\xc3\x01\x30\xf9\xb3\xe0\x46\xb3\x2d\x03\x0e\x03foo\x01\x30\xa4\xaf\xdb\xe0\xb3\x25\x40\x15\x06stdout\x03\xb3\x29\x03\x01\x30\x77\x41\x36\x30",
+        true,
+    ),
 ];
 
 // Whether the bytes are the packets of the row, and then that of the end inside a packet, where there is one.
@@ -93,6 +143,20 @@ fn an_end_inside_a_packet_is_told_behind_the_bytes(rt: HostRuntime) {
             assert!(rt; is_recorded(rt.alloc(), row, size) == Some(true));
         }
     }
+}
+
+// A character goes on behind the last byte of a full note.
+fn long_text(alloc: Global) -> Option<bool> {
+    let mut stream = repeated(alloc, b"a", 65_535)?;
+    stream.extend_from_slice(b"\xc3\xb3\x20el").ok()?;
+    let pieces = pieces(alloc, &stream, 65_536)?;
+    let recorded = recorded_of_pieces(alloc, 0, &pieces).ok()?;
+    Some(recorded.ends_with(b"\x06stdout\x04\xb3\x20el\x01\x30\x93\xa0\x6f\x23"))
+}
+
+#[test]
+fn a_character_goes_on_in_the_next_note(rt: HostRuntime) {
+    assert!(rt; long_text(rt.alloc()) == Some(true));
 }
 
 // `foo` passed and `bar` is lost: the output ends inside of a packet, and the child with 7.

@@ -1,1 +1,2 @@
+pub mod CharacterLemmas
 pub mod InsideLemmas

@@ -43,8 +43,8 @@ pub enum LanesRefusal {
 /// lines' end is not said yet, since the run is not stored: it comes back.
 ///
 /// `Shelf` comes exactly where a call of the folder failed, also where memory ran out too. Then, and with `NoMemory`, all
-/// children were stopped and waited for (no clause says so): a child is stopped by the thread that reads it, as soon as that
-/// has read on, so that one that is silent is waited for until it prints or ends.
+/// children were stopped and waited for (no clause says so): a child is stopped by the thread that reads it, as soon as one
+/// read of it has come back, so that one that is silent is waited for until it prints or ends.
 pub fn record_lanes<R: Threads + Wait + Sync, C: Child + Send + Drop, H: Shelf, E: Sink, O: Sink>(
     rt: &R,
     alloc: Global,

@@ -70,7 +70,7 @@ note_events lane (note.Foreign run) front small are made short = are_events_of l
 
 -- ---- a scribe stays sound
 
-pub sound_start : (lane : ℕ) → lane < 64 → IsSoundScribe (record { lane = lane; waiting = []; held = record { bytes = []; ended = false }; inside = false })
+pub sound_start : (lane : ℕ) → lane < 64 → IsSoundScribe (record { lane = lane; waiting = []; held = record { bytes = []; ended = false }; missing = 0; inside = false })
 sound_start lane small = record { lane = small; are_bytes = All-nil (λ byte. byte < 256); short = omega arith; waiting = All-nil (IsEventOf lane) }
 
 sound_taken : (before after : Scribing) → TakesNote before after → IsSoundScribe before → IsSoundScribe after
@@ -105,7 +105,7 @@ record IsSoundFirst (event : Event) (after : Scribing) : Type 0 where
 sound_given : (before after : Scribing) (event : Event) → GivesEvent before event after → IsSoundScribe before → IsSoundFirst event after
 sound_given before after event g s =
     let ready : IsSoundScribe g.waiting = sound_as_before before g.waiting g.ready s in
-    let first : IsSoundScribe (record { lane = after.lane; waiting = event ∷ after.waiting; held = after.held; inside = after.inside }) = rw (g.first) at ready in
+    let first : IsSoundScribe (record { lane = after.lane; waiting = event ∷ after.waiting; held = after.held; missing = after.missing; inside = after.inside }) = rw (g.first) at ready in
     record {
       after_sound = record { lane = first.lane; are_bytes = first.are_bytes; short = first.short; waiting = All-tail (IsEventOf after.lane) event after.waiting first.waiting };
       first = All-head (IsEventOf after.lane) event after.waiting first.waiting;

@@ -3,7 +3,7 @@ use Rattle.std.specs.Prelude.{ℕ, Bool, true, false, Some, None, List, [], ◌�
 use Rattle.packet_codec.specs.declared.event.Event.{Event}
 use Rattle.packet_codec.specs.declared.status.Status.TheVariants.{Fail}
 use Rattle.packet_codec.specs.Routing.{under}
-pub use Rattle.stream_end.specs.Inside.{ends_inside}
+pub use Rattle.stream_end.specs.Inside.{ends_inside, ends_inside_behind}
 
 -- the text that tells of it
 abbrev pub inside_text : List ℕ

@@ -8,4 +8,5 @@ pub mod Waiting
 pub mod Rest
 pub mod Courses
 pub mod Lanes
+pub mod Turns
 pub mod RecordedLanes

@@ -10,7 +10,7 @@ use Rattle.stream_reader.specs.Room.{reader_room}
 use Rattle.stream_reader.specs.declared.note.Note.{Note}
 use Rattle.stream_reader.specs.Notes.{HasNotes}
 use Rattle.stream_reader.proofs.ExistLemmas.{some_notes}
-use Rattle.worker_lane.specs.Inside.{ends_inside, inside_events}
+use Rattle.worker_lane.specs.Inside.{ends_inside, ends_inside_behind, inside_events}
 use Rattle.worker_lane.specs.Recorded.{recorded_events}
 use Rattle.worker_lane.specs.Scribing.{Scribing}
 use Rattle.worker_lane.specs.Endings.{ending_of, ending_events, IsPacketOf}
@@ -53,15 +53,15 @@ lots_for lane output = lots_asked lane [] output
 
 -- Whether it is still to be told that the stream ends inside a packet, where it ends behind these bytes. Of a stream that
 -- has ended that is known.
-abbrev pub inside_at : (ended inside : Bool) → (bytes : List ℕ) → Bool
-inside_at true inside bytes = inside
-inside_at false inside bytes = ends_inside bytes
+abbrev pub inside_at : (ended inside : Bool) → (missing : ℕ) → (bytes : List ℕ) → Bool
+inside_at true inside missing bytes = inside
+inside_at false inside missing bytes = ends_inside_behind missing bytes
 
 -- the events that a scribe has still to give where these bytes are fed to it, and then the stream ends
 abbrev pub events_left : Scribing → (more : List ℕ) → List Event
 events_left scribe more = scribe.waiting
     ++ (recorded_events scribe.lane (notes_of_stream (scribe.held.bytes ++ more))
-    ++ inside_events scribe.lane (inside_at scribe.held.ended scribe.inside (scribe.held.bytes ++ more)))
+    ++ inside_events scribe.lane (inside_at scribe.held.ended scribe.inside scribe.missing (scribe.held.bytes ++ more)))
 
 -- The lots that are left. While the child is read they hang on what it tells, and after that on what the scribe holds.
 abbrev pub lots_left : Scribing → (ids : List (List ℕ)) → Stage → Output → List Lot
@@ -84,7 +84,7 @@ lots course = lots_left course.scribe course.ids course.stage
 
 -- the course of a new lane whose job names these ids
 abbrev pub new_course : (lane : ℕ) → (ids : List (List ℕ)) → Coursing
-new_course lane ids = record { scribe = record { lane = lane; waiting = []; held = record { bytes = []; ended = false }; inside = false }; ids = named_ids ids; stage = Reading; failed = false }
+new_course lane ids = record { scribe = record { lane = lane; waiting = []; held = record { bytes = []; ended = false }; missing = 0; inside = false }; ids = named_ids ids; stage = Reading; failed = false }
 
 -- a packet of the lane stood at the front of what is left, and was appended
 pub record AppendsNext (before : Coursing) (old : List ℕ) (after : Coursing) (new : List ℕ) : Type 0 where

@@ -5,9 +5,10 @@ ghost use Rattle.std.specs.Prelude.{◌≡◌, IfOk, length};
 use crate::child_end::{stop_child, wait_for_child};
 use crate::lane_state::LaneState;
 use crate::lot::{Ending, Lot};
+use crate::turn::Turn;
 use edge_io::{Child, Failed, PIECE};
 use std::alloc::Global;
-use sub_number::{Bytes, NoMemory, Text};
+use sub_number::{NoMemory, Text};
 
 /// One worker process, read under a number. It gives what is recorded of the process's output, packet by packet, then
 /// the packets of the tests of its job that were lost, then the packet that tells of its end, where there is one, and then
@@ -25,13 +26,15 @@ pub struct Lane<C> {
 }
 
 impl<C: Child> Lane<C> {
-    ghost use Rattle.std.specs.Prelude.{◌⊎◌, ◌≤◌, ◌<◌, ◌↔◌, true, false, None, Some, OnOk, OnErr, IfErr, IfSome, IfNone, map};
+    ghost use Rattle.std.specs.Prelude.{◌⊎◌, ◌≤◌, ◌<◌, ◌↔◌, true, false, None, Some, OnOk, OnErr, IfErr, IfSome, IfNone};
     ghost use Rattle.std.specs.Option.{option_map, option_to_list};
-    ghost use Rattle.worker_lane.specs.Endings.{IsPacketOf, IsLotOf};
+    ghost use Rattle.worker_lane.specs.Endings.{IsLotOf};
     ghost use Rattle.worker_lane.specs.Rest.{GivesIfTold, IsOver, lots_asked, IsMarkedLot, IsEnd};
     ghost use Rattle.stream_reader.specs.Room.{reader_room, most_held};
     ghost use Rattle.worker_lane.specs.Lanes.{rest, lane_number, lane_failed, lane_faults, lane_held, IsPast, AppendsPacket, KeepsLane};
-    ghost use Rattle.worker_lane.specs.declared.lot.Lot.TheVariants.{Packet, End};
+    ghost use Rattle.worker_lane.specs.Turns.{turn_lot};
+    ghost use Rattle.worker_lane.specs.declared.turn.Turn.TheVariants as turn;
+    ghost use Rattle.worker_lane.specs.declared.lot.Lot.TheVariants.{End};
     ghost use Rattle.worker_lane.specs.declared.lot.Ending.TheVariants.{Fault, NoMemory as without_memory};
     ghost use Rattle.worker_lane.specs.declared.lane_stage.Stage.TheVariants.{Reading, Over};
 
@@ -69,10 +72,7 @@ impl<C: Child> Lane<C> {
         self.course.held()
     }
 
-    /// The next lot; it may wait for the child. None after the end.
-    ///
-    /// Where a read of the child fails, or the wait for it, the lane is marked, gives what is recorded of the bytes that
-    /// it has, and ends with `Fault`. For want of memory it stops the child, waits for it, and ends with `NoMemory`.
+    /// The next lot; it waits for the child until one is decided. None after the end. So it is of turns, one after another.
     pub fn step(&mut self) -> Option<Lot>
         ensures keeps { KeepsLane C.seen self.old self.new }
         ensures gives { (result ≡ Some (End without_memory)) ⊎ GivesIfTold (rest C.seen self.old) (option_to_list result) (rest C.seen self.new) }
@@ -84,11 +84,37 @@ impl<C: Child> Lane<C> {
         ensures stays { IfNone result (IsPast self.new) }
         ensures past { IfSome result (λ lot. IsEnd lot ↔ IsPast self.new) }
     {
-        match self.next_lot() {
-            Ok(lot) => lot,
+        loop {
+            match self.turn() {
+                Turn::Given(lot) => return Some(lot),
+                Turn::Read => {}
+                Turn::Past => return None,
+            }
+        }
+    }
+
+    /// One turn: it gives the next lot, where what was read of the child decides it. Else it reads the child once, and may
+    /// wait for that. So whoever may have to stop the child looks for that between two reads.
+    ///
+    /// Where a read of the child fails, or the wait for it, the lane is marked, gives what is recorded of the bytes that
+    /// it has, and ends with `Fault`. For want of memory it stops the child, waits for it, and ends with `NoMemory`.
+    pub fn turn(&mut self) -> Turn
+        ensures keeps { KeepsLane C.seen self.old self.new }
+        ensures gives { (turn_lot result ≡ Some (End without_memory)) ⊎ GivesIfTold (rest C.seen self.old) (option_to_list (turn_lot result)) (rest C.seen self.new) }
+        ensures lack { turn_lot result ≡ Some (End without_memory) → IsOver (rest C.seen self.new) }
+        ensures under { IfSome (turn_lot result) (IsLotOf (lane_number self.old)) }
+        ensures fault { turn_lot result ≡ Some (End Fault) → lane_failed self.new ≡ true }
+        ensures none { (result ≡ turn.Past) ↔ IsPast self.old }
+        ensures over { result ≡ turn.Past → IsOver (rest C.seen self.new) }
+        ensures stays { result ≡ turn.Past → IsPast self.new }
+        ensures past { IfSome (turn_lot result) (λ lot. IsEnd lot ↔ IsPast self.new) }
+        ensures read { result ≡ turn.Read → (IsPast self.new → ⊥) × (lane_held self.old ≤ most_held) × (lane_held self.old < lane_held self.new) }
+    {
+        match self.next_turn() {
+            Ok(turn) => turn,
             Err(NoMemory) => {
                 self.end();
-                Some(Lot::End(Ending::NoMemory))
+                Turn::Given(Lot::End(Ending::NoMemory))
             }
         }
     }
@@ -116,23 +142,30 @@ impl<C: Child> Lane<C> {
         stop_child(&mut self.child);
     }
 
-    // The next lot, where there is memory.
-    fn next_lot(&mut self) -> Result<Option<Lot>, NoMemory>
+    // One turn, where there is memory.
+    fn next_turn(&mut self) -> Result<Turn, NoMemory>
         ensures keeps { KeepsLane C.seen self.old self.new }
-        ensures gives { IfOk result (λ answer. GivesIfTold (rest C.seen self.old) (option_to_list answer) (rest C.seen self.new)) }
-        ensures under { IfOk result (λ answer. IfSome answer (IsLotOf (lane_number self.old))) }
-        ensures marked { IfOk result (λ answer. IfSome answer (λ lot. IsMarkedLot lot (lane_failed self.new))) }
-        ensures none { IfOk result (λ answer. (answer ≡ None) ↔ IsPast self.old) }
-        ensures past { IfOk result (λ answer. IfSome answer (λ lot. IsEnd lot ↔ IsPast self.new)) }
-        ensures stays { IfOk result (λ answer. IfNone answer (IsPast self.new)) }
+        ensures gives { IfOk result (λ given. GivesIfTold (rest C.seen self.old) (option_to_list (turn_lot given)) (rest C.seen self.new)) }
+        ensures under { IfOk result (λ given. IfSome (turn_lot given) (IsLotOf (lane_number self.old))) }
+        ensures marked { IfOk result (λ given. IfSome (turn_lot given) (λ lot. IsMarkedLot lot (lane_failed self.new))) }
+        ensures none { IfOk result (λ given. (given ≡ turn.Past) ↔ IsPast self.old) }
+        ensures past { IfOk result (λ given. IfSome (turn_lot given) (λ lot. IsEnd lot ↔ IsPast self.new)) }
+        ensures stays { IfOk result (λ given. given ≡ turn.Past → IsPast self.new) }
+        ensures read { IfOk result (λ given. given ≡ turn.Read → (IsPast self.new → ⊥) × (lane_held self.old ≤ most_held) × (lane_held self.old < lane_held self.new)) }
         ensures err { OnErr result (IsPast self.old → ⊥) }
     {
         if self.course.is_reading() {
-            if let Some(packet) = self.read_on()? {
-                return Ok(Some(Lot::Packet(packet)));
+            if let Some(packet) = self.course.next()? {
+                return Ok(Turn::Given(Lot::Packet(packet)));
+            }
+            if self.read_more() {
+                return Ok(Turn::Read);
             }
         }
-        self.course.step()
+        match self.course.step()? {
+            Some(lot) => Ok(Turn::Given(lot)),
+            None => Ok(Turn::Past),
+        }
     }
 
     // The child is stopped and waited for, and nothing more is given.
@@ -142,25 +175,6 @@ impl<C: Child> Lane<C> {
     {
         let failed = stop_child(&mut self.child);
         self.course.end(failed);
-    }
-
-    // Reads the child up to the next packet. None where its output has ended.
-    fn read_on(&mut self) -> Result<Option<Bytes>, NoMemory>
-        requires { self.old.course.stage ≡ Reading }
-        ensures keeps { KeepsLane C.seen self.old self.new }
-        ensures gives { IfOk result (λ answer. GivesIfTold (rest C.seen self.old) (map Packet (option_to_list answer)) (rest C.seen self.new)) }
-        ensures under { IfOk result (λ answer. IfSome answer (IsPacketOf (lane_number self.old))) }
-        ensures some { IfOk result (λ answer. IfSome answer (λ packet. self.new.course.stage ≡ Reading)) }
-        ensures none { IfOk result (λ answer. IfNone answer ((self.new.course.stage ≡ Reading → ⊥) × (self.new.course.stage ≡ Over → ⊥))) }
-    {
-        loop {
-            if let Some(packet) = self.course.next()? {
-                return Ok(Some(packet));
-            }
-            if !self.read_more() {
-                return Ok(None);
-            }
-        }
     }
 
     // One more read of the child. False where its output has ended.

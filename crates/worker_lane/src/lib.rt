@@ -12,7 +12,7 @@
 //! - `whole_stream`: all packets of a stream
 //! - `laws`: what holds of all that is recorded
 //! - `lane_laws`: what holds of several streams that are recorded, each under its lane
-//! - `lane`: one worker process, read under its number
+//! - `lane`, `turn`: one worker process, read under its number, and what one turn of it comes to
 //! - `lane_state`, `lane_stage`, `child_end`: what is kept of a lane beside its child, how far it has come, and the child's end
 //! - `unheard_ids`: the ids of a lane's job of which nothing was heard yet
 //! - `end_inside_packet`: the event that tells that a stream ends inside a packet
@@ -31,6 +31,7 @@ mod lost_test;
 mod lot;
 mod scribe;
 mod stdout;
+mod turn;
 mod unheard_ids;
 mod waiting_note;
 mod whole_stream;
@@ -40,5 +41,6 @@ pub use lane_laws::recorded_lanes;
 pub use laws::{lots_in_turn, recorded_streams, recording_in_turn, tests_that_are_lost};
 pub use lot::{Ending, Lot};
 pub use scribe::Scribe;
+pub use turn::Turn;
 pub use unheard_ids::LONGEST_ID;
 pub use whole_stream::{recorded_of_pieces, take_packets};

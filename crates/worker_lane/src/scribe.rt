@@ -7,7 +7,7 @@ ghost use Rattle.stream_reader.specs.First.{FirstIs, IsCandidate, IsForeignAtFro
 ghost use Rattle.stream_reader.specs.Room.{reader_room};
 ghost use Rattle.stream_reader.specs.declared.first_note.First.TheVariants.{Packet as APacket, Nothing as NoNote};
 ghost use Rattle.worker_lane.specs.Endings.{ending_events, IsPacketOf};
-ghost use Rattle.worker_lane.specs.Inside.{ends_inside as is_inside};
+ghost use Rattle.worker_lane.specs.Inside.{ends_inside_behind as is_inside};
 ghost use Rattle.worker_lane.specs.Lost.{longest_id, IsLostPacket};
 ghost use Rattle.worker_lane.specs.declared.lot.Ending.TheVariants.{Exit, NoMemory as without_memory};
 ghost use Rattle.worker_lane.specs.Scribing.{scribe_holding, finished, GivesOne, GivesPacket, HasNoNote, HasNone, most_left, Recording};
@@ -22,14 +22,14 @@ use crate::waiting_note::{Waiting, is_nothing, put_first, put_packet};
 use packet_codec::{Header, are_bytes, encode};
 use std::alloc::Global;
 use std::marker::Model;
-use stream_end::ends_inside;
+use stream_end::{OpenCharacter, ends_inside};
 use stream_reader::{First, Reader, Seen};
 use sub_number::{Bytes, NoMemory, Text};
 
 /// What a stream becomes when it is recorded under a lane: for each note of the stream, packets under the lane's route,
 /// and one more where it ends inside a packet. Contracts see the lane, the events that are given before the next note is
-/// taken, the bytes fed of which no note was taken, and whether an end inside a packet is still to be told of. A note is
-/// taken when its first packet is given.
+/// taken, the bytes fed of which no note was taken, and how many bytes are missing to a character in front of these. They
+/// see, too, whether an end inside a packet is still to be told of. A note is taken when its first packet is given.
 ///
 /// With `recording` the clauses say of all calls together what was given: that of `new` holds, each call keeps it, and
 /// `recording_in_turn` tells what it comes to at the end.
@@ -38,6 +38,8 @@ pub struct Scribe {
     alloc: Global,
     lane: u32,
     reader: Reader,
+    // The character that the foreign bytes in front of what the reader holds leave open.
+    character: OpenCharacter,
     waiting: Waiting,
     // The stream has ended inside a packet, and this is still to be told.
     inside: bool,
@@ -50,7 +52,7 @@ impl Model for Scribe {
 
     ghost Value = { Scribing };
 
-    ghost view = { λ s. record { lane = s.lane; waiting = waiting_events s.lane s.waiting; held = s.reader; inside = s.inside } };
+    ghost view = { λ s. record { lane = s.lane; waiting = waiting_events s.lane s.waiting; held = s.reader; missing = s.character; inside = s.inside } };
 
     ghost invariant = { λ s. (s.lane < 64) × HasWaitingEvent s.waiting × (s.inside ≡ true → s.reader.ended ≡ true) };
 }
@@ -59,13 +61,14 @@ impl Scribe {
     /// A scribe to which nothing was fed. The lane is below 64.
     pub fn new(alloc: Global, lane: u32) -> Result<Self, NoMemory>
         requires { lane < 64 }
-        ensures empty { IfOk result (λ scribe. scribe ≡ record { lane = lane; waiting = []; held = record { bytes = []; ended = false }; inside = false }) }
+        ensures empty { IfOk result (λ scribe. scribe ≡ record { lane = lane; waiting = []; held = record { bytes = []; ended = false }; missing = 0; inside = false }) }
         ensures recording { IfOk result (λ scribe. Recording [] scribe []) }
     {
         Ok(Scribe {
             alloc,
             lane,
             reader: Reader::new(alloc)?,
+            character: OpenCharacter::none(),
             waiting: Waiting::Nothing,
             inside: false,
         })
@@ -165,9 +168,9 @@ impl Scribe {
 impl Scribe {
     // Whether the stream ends inside a packet, where it ends behind what is held.
     fn stands_inside(&self) -> bool
-        ensures { result ≡ is_inside self.now.held.bytes }
+        ensures { result ≡ is_inside self.now.missing self.now.held.bytes }
     {
-        ends_inside(self.reader.front(self.reader.held()))
+        ends_inside(self.character, self.reader.front(self.reader.held()))
     }
 
     #[inline(always)]
@@ -212,7 +215,7 @@ impl Scribe {
         ensures err { OnErr result ((self.new ≡ self.old) × (out.new.items ≡ out.old.items)) }
     {
         if let Some(size) = self.put_where_packet(header, sum, out)? {
-            self.reader.pass(First::Packet(size));
+            self.character.pass(&mut self.reader, First::Packet(size));
             return Ok(true);
         }
         let first = self.reader.foreign_front();
@@ -231,7 +234,7 @@ impl Scribe {
         if !self.put_first_of(first, out)? {
             return Ok(false);
         }
-        self.reader.pass(first);
+        self.character.pass(&mut self.reader, first);
         Ok(true)
     }
 
@@ -248,6 +251,7 @@ impl Scribe {
         requires candidate { IsCandidate self.old.held.bytes header sum }
         ensures lane { self.new.lane ≡ self.old.lane }
         ensures held { self.new.held ≡ self.old.held }
+        ensures missing { self.new.missing ≡ self.old.missing }
         ensures inside { self.new.inside ≡ self.old.inside }
         ensures some { IfOk result (λ answer. IfSome answer (λ size. PutsNote self.old.lane self.old.held.bytes (APacket size) out.old.items self.new.waiting out.new.items)) }
         ensures first { IfOk result (λ answer. IfSome answer (λ size. FirstIs self.old.held.ended self.old.held.bytes (APacket size))) }
@@ -270,6 +274,7 @@ impl Scribe {
         requires first { FirstIs self.old.held.ended self.old.held.bytes first }
         ensures lane { self.new.lane ≡ self.old.lane }
         ensures held { self.new.held ≡ self.old.held }
+        ensures missing { self.new.missing ≡ self.old.missing }
         ensures inside { self.new.inside ≡ self.old.inside }
         ensures some { IfOk result (λ some. some ≡ true → PutsNote self.old.lane self.old.held.bytes first out.old.items self.new.waiting out.new.items) }
         ensures none { IfOk result (λ some. some ≡ false → (first ≡ NoNote) × (self.new ≡ self.old) × (out.new.items ≡ out.old.items)) }

@@ -21,7 +21,7 @@ use Rattle.worker_lane.specs.declared.lot.Lot.TheVariants.{Packet, End}
 use Rattle.worker_mux.specs.Passes.{number_of, lots_put, settled_pass, IsPassFor}
 use Rattle.worker_mux.specs.Callers.{packet_of}
 use Rattle.worker_mux.specs.Packets.{IsWhole}
-use Rattle.worker_mux.specs.Works.{AllWell, ArePacketsUnder, joined_packets, bytes_left, IsOwn, IsReady, lots_given, left, whole, KeepsWork, IsPut, Drives, Settles, Pairs, IsEntryOf}
+use Rattle.worker_mux.specs.Works.{AllWell, IsOwnPass, ArePacketsUnder, joined_packets, bytes_left, IsOwn, IsReady, lots_given, left, whole, KeepsWork, IsPut, Drives, Settles, Pairs, IsEntryOf}
 use Rattle.worker_mux.specs.declared.belt.Belt.{Belt}
 use Rattle.worker_mux.specs.declared.knowledge.Settled.{Settled}
 use Rattle.worker_mux.specs.declared.belt_passes.LanePass.{LanePass}
@@ -264,3 +264,41 @@ module _ {C : Type 0} (seen : C → Seen Output) where
 
   pub settles_none : (works : List (Work C)) (m : Bool) (old new : List Settled) → works ≡ [] → new ≡ old → Settles seen m works old new
   settles_none works m old new empty same = ([], same, λ so. subst (λ (l : List (Work C)). Pairs (IsEntryOf seen) l []) (sym empty) tt)
+
+-- ---- a turn that gave no lot
+
+kept_none : (kept : Option Lot) → IfSome kept (λ k. None ≡ Some k) → kept ≡ None
+kept_none None first = refl
+kept_none (Some k) first = absurd cc
+
+front_none : (left : Option (List ℕ)) → option_map (λ l. [] ++ l) left ≡ left
+front_none None = refl
+front_none (Some l) = refl
+
+same_left : (before mid : Option (List ℕ)) → (None ≡ Some (End NoMemory)) ⊎ GivesIfTold before [] mid → mid ≡ before
+same_left before mid (inl out) = absurd cc
+same_left before mid (inr g) = sym (g ∙ front_none mid)
+
+module _ {C : Type 0} where
+  pub ready_read : (belt : Belt) (before mid : Work C) → IsReady belt before → mid.pass ≡ before.pass → lane_number mid.lane ≡ lane_number before.lane → mid.kept ≡ None → IsReady belt mid
+  ready_read belt before mid ready pass lane empty = record {
+    pass = subst (IsOwnPass belt) (sym pass) ready.pass;
+    number = lane ∙ ready.number ∙ ap number_of (sym pass);
+    kept = subst (λ (k : Option Lot). IfSome k (IsOwn (number_of mid.pass))) (sym empty) tt;
+  }
+
+module _ {C : Type 0} (seen : C → Seen Output) where
+  pub was_read : (start before mid : Work C) → KeepsWork seen start before → mid.pass ≡ before.pass → mid.kept ≡ None → IfSome before.kept (λ k. None ≡ Some k)
+      → (None ≡ Some (End NoMemory)) ⊎ GivesIfTold (left seen before) [] (left seen mid) → KeepsWork seen start mid
+  was_read start before mid keeps pass empty first gives =
+      let same : lots_given mid ≡ lots_given before =
+      ap (λ (p : LanePass). lots_put p ++ option_to_list mid.kept) pass
+      ∙ ap (λ (k : Option Lot). lots_put before.pass ++ option_to_list k) (empty ∙ sym (kept_none before.kept first)) in
+      let all : whole seen mid ≡ whole seen before =
+      ap (λ (p : LanePass). option_map (λ l. joined_packets (lots_put p) ++ l) (left seen mid)) pass
+      ∙ ap (λ (o : Option (List ℕ)). option_map (λ l. joined_packets (lots_put before.pass) ++ l) o) (same_left (left seen before) (left seen mid) gives) in
+      record {
+        number = ap number_of pass ∙ keeps.number;
+        well = λ so. keeps.well (subst AllWell same so);
+        same = λ so. all ∙ keeps.same (subst AllWell same so);
+      }

@@ -47,8 +47,8 @@ const ROOM: usize = 16;
 /// With `NoMemory` all children were stopped and waited for (no clause says so), and what was added are packets of some
 /// events. It does not come where there is no lane, nor where a call of the folder failed.
 ///
-/// A child is stopped by the thread that reads it, as soon as that has read on: one that is silent is waited for until it
-/// prints or ends.
+/// A child is stopped by the thread that reads it, as soon as one read of it has come back: one that is silent is
+/// waited for until it prints or ends.
 pub fn run_lanes<R: Threads + Wait + Sync, C: Child + Send + Drop, H: Shelf>(
     rt: &R,
     alloc: Global,

@@ -6,6 +6,8 @@ ghost use Rattle.packet_codec.specs.Grammar.{AreBytes};
 ghost use Rattle.worker_lane.specs.Rest.{GivesIfTold, IsOver};
 ghost use Rattle.worker_lane.specs.Endings.{IsLotOf};
 ghost use Rattle.worker_lane.specs.Lanes.{lane_number};
+ghost use Rattle.worker_lane.specs.Turns.{turn_lot};
+ghost use Rattle.worker_lane.specs.declared.turn.Turn.TheVariants as turn;
 ghost use Rattle.worker_lane.specs.declared.lot.Lot.TheVariants.{End};
 ghost use Rattle.worker_lane.specs.declared.lot.Ending.TheVariants.{NoMemory as without_memory};
 ghost use Rattle.worker_mux.specs.Passes.{number_of};
@@ -19,7 +21,7 @@ use edge_io::Child;
 use std::sync::Wait;
 use std::sync::atomic::{AtomicBool, Ordering};
 use sub_number::Bytes;
-use worker_lane::{Lane, Lot};
+use worker_lane::{Lane, Lot, Turn};
 
 /// What all lanes share: the belt, the gate at which threads wait for its moves, and whether all lanes are to stop.
 #[derive(Drop)]
@@ -104,42 +106,47 @@ fn join<C: Child>(lane: &mut Lane<C>, lot: Lot) -> Lot
 }
 
 impl<C: Child> Work<C> {
-    // The lane's next lot: of packets as many as need no further read of the child.
-    fn step(&mut self) -> Option<Lot>
+    // One turn of the lane: of packets it gives as many as need no further read of the child.
+    fn step(&mut self) -> Turn
         ensures pass { self.new.pass ≡ self.old.pass }
         ensures kept { self.new.kept ≡ self.old.kept }
         ensures number { lane_number self.new.lane ≡ lane_number self.old.lane }
-        ensures own { IfSome result (IsOwn (lane_number self.old.lane)) }
-        ensures gives { (result ≡ Some (End without_memory)) ⊎ GivesIfTold (bytes_left C.seen self.old.lane) (joined_packets (option_to_list result)) (bytes_left C.seen self.new.lane) }
-        ensures none { IfNone result (IsOver (bytes_left C.seen self.new.lane)) }
+        ensures own { IfSome (turn_lot result) (IsOwn (lane_number self.old.lane)) }
+        ensures gives { (turn_lot result ≡ Some (End without_memory)) ⊎ GivesIfTold (bytes_left C.seen self.old.lane) (joined_packets (option_to_list (turn_lot result))) (bytes_left C.seen self.new.lane) }
+        ensures none { result ≡ turn.Past → IsOver (bytes_left C.seen self.new.lane) }
     {
-        let lot = self.lane.step()?;
-        let lot = join(&mut self.lane, lot);
-        has_bytes(&lot);
-        Some(lot)
+        match self.lane.turn() {
+            Turn::Given(lot) => {
+                let lot = join(&mut self.lane, lot);
+                has_bytes(&lot);
+                Turn::Given(lot)
+            }
+            Turn::Read => Turn::Read,
+            Turn::Past => Turn::Past,
+        }
     }
 
-    // The lot to put next: the one that was handed back, or else the lane's next.
-    fn next(&mut self) -> Option<Lot>
+    // The lot to put next: the one that was handed back, or else the lane's next, where one turn gives it.
+    fn next(&mut self) -> Turn
         requires number { lane_number self.old.lane ≡ number_of self.old.pass }
         requires kept { IfSome self.old.kept (IsOwn (number_of self.old.pass)) }
         ensures pass { self.new.pass ≡ self.old.pass }
         ensures number { lane_number self.new.lane ≡ lane_number self.old.lane }
-        ensures own { IfSome result (IsOwn (number_of self.old.pass)) }
+        ensures own { IfSome (turn_lot result) (IsOwn (number_of self.old.pass)) }
         ensures kept { self.new.kept ≡ None }
-        ensures gives { (result ≡ Some (End without_memory)) ⊎ GivesIfTold (left C.seen self.old) (joined_packets (option_to_list result)) (left C.seen self.new) }
-        ensures first { IfSome self.old.kept (λ lot. result ≡ Some lot) }
-        ensures none { IfNone result (IsOver (left C.seen self.new)) }
+        ensures gives { (turn_lot result ≡ Some (End without_memory)) ⊎ GivesIfTold (left C.seen self.old) (joined_packets (option_to_list (turn_lot result))) (left C.seen self.new) }
+        ensures first { IfSome self.old.kept (λ lot. turn_lot result ≡ Some lot) }
+        ensures none { result ≡ turn.Past → IsOver (left C.seen self.new) }
     {
         match self.kept.take() {
-            Some(lot) => Some(lot),
+            Some(lot) => Turn::Given(lot),
             None => self.step(),
         }
     }
 }
 
 /// Puts each lot of the work, and waits while the belt is full. Where the flag is set, a full belt ends the call, and the
-/// lot is kept. Where all lanes are to stop, the child is given up.
+/// lot is kept. Where all lanes are to stop, the child is given up: that is looked for between two reads of the child.
 pub(crate) fn drive_work<C: Child + Drop, R: Wait>(
     rt: &R,
     shared: &Shared,
@@ -162,18 +169,19 @@ pub(crate) fn drive_work<C: Child + Drop, R: Wait>(
             lane.give_up();
             return Outcome::GivenUp(pass);
         }
-        let Some(lot) = work.next() else {
-            return Outcome::Put(work.pass);
-        };
-        match shared.belt.put(rt, &mut work.pass, lot) {
-            Ok(()) => shared.gate.tell_put(),
-            Err(back) => {
-                work.kept = Some(back);
-                if flag.load(Ordering::SeqCst) {
-                    return Outcome::Kept(work);
+        match work.next() {
+            Turn::Past => return Outcome::Put(work.pass),
+            Turn::Read => {}
+            Turn::Given(lot) => match shared.belt.put(rt, &mut work.pass, lot) {
+                Ok(()) => shared.gate.tell_put(),
+                Err(back) => {
+                    work.kept = Some(back);
+                    if flag.load(Ordering::SeqCst) {
+                        return Outcome::Kept(work);
+                    }
+                    shared.gate.wait_for_take(rt, seen);
                 }
-                shared.gate.wait_for_take(rt, seen);
-            }
+            },
         }
     }
     unreachable!()

@@ -4,7 +4,7 @@ use Rattle.filter_cli.proofs.NotedLemmas.{takes_none, takes_more, given_shorter}
 use Rattle.filter_cli.proofs.note_taker.take_notes.Goals as goal
 
 pub loop-more-init : goal.loop-more-init
-loop-more-init g c = record { taken = λ notes has. takes_none _ _ notes _ _ has; ready = c.requires; ended = refl; plan = refl }
+loop-more-init g c = record { taken = λ notes has. takes_none _ _ notes _ _ _ has; ready = c.requires; ended = refl; plan = refl }
 
 pub loop-more-preserved : goal.loop-more-preserved
 loop-more-preserved g c =
@@ -12,7 +12,7 @@ loop-more-preserved g c =
     let some : c.in_ok-more.more ≡ true = grind (arith, c.if-not-more.false) in
     let t = c.in_ok-more.ensures.some some in
     record {
-      taken = λ notes has. takes_more (g.F.NoteFilter.has c.loop-more.filter) _ _ (g.F.NoteFilter.plan c.loop-more.filter) notes _ c.loop-more.reader _ _ c.loop-more.text.items _ t.note inv.plan (inv.taken notes has) t.given c.in_ok-more.ensures.ended t.taken t.grown;
+      taken = λ notes has. takes_more (g.F.NoteFilter.has c.loop-more.filter) _ _ (g.F.NoteFilter.plan c.loop-more.filter) notes _ c.loop-more.reader _ _ c.loop-more.character _ _ c.loop-more.text.items _ t.note inv.plan (inv.taken notes has) t.given t.heard c.in_ok-more.ensures.ended t.taken t.grown;
       ready = c.in_ok-more.ensures.ready;
       ended = c.in_ok-more.ensures.ended ∙ inv.ended;
       plan = c.in_ok-more.ensures.plan ∙ inv.plan;
@@ -28,7 +28,7 @@ pub returns-then-not-more-clause-taken : goal.returns-then-not-more-clause-taken
 returns-then-not-more-clause-taken g c = λ notes has.
     let none : c.in_ok-more.more ≡ false = grind (arith, c.if-not-more.true) in
     let rest = c.in_ok-more.ensures.none none in
-    rw (rest.1, rest.2, rest.3) (c.loop-more.invariant.taken notes has)
+    rw (rest.1, rest.2, rest.3, rest.4) (c.loop-more.invariant.taken notes has)
 
 pub returns-then-not-more-clause-spent : goal.returns-then-not-more-clause-spent
 returns-then-not-more-clause-spent g c =

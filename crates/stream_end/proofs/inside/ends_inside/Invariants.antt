@@ -1,10 +1,10 @@
 use Rattle.std.proofs.Common.{◌≡◌, length}
-use Rattle.stream_end.specs.Inside.{ends_inside}
+use Rattle.stream_end.specs.Inside.{ends_inside_behind}
 use Rattle.stream_end.proofs.inside.ends_inside.Given as goal
 
 -- what is left ends as the whole does
-abbrev pub invariant-loop-behind : goal.invariant-loop-behind
-invariant-loop-behind l = ends_inside l.fn.bytes ≡ ends_inside l.rest
+abbrev pub invariant-loop-next : goal.invariant-loop-next
+invariant-loop-next l = ends_inside_behind l.fn.behind l.fn.bytes ≡ ends_inside_behind l.character l.rest
 
-abbrev pub decreases-loop-behind : goal.decreases-loop-behind
-decreases-loop-behind l = length l.rest
+abbrev pub decreases-loop-next : goal.decreases-loop-next
+decreases-loop-next l = length l.rest

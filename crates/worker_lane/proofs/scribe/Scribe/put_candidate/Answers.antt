@@ -8,7 +8,8 @@ returns-in-Some-clause-some c = λ is.
     let done = c.in_ok-size.ensures in
     let held = rw (← c.self.view_is) at done.held in
     let lane = rw (← c.self.view_is) at done.lane in
+    let missing = rw (← c.self.view_is) at done.missing in
     let inside = rw (← c.self.view_is) at done.inside in
     let some = rw (c.in-Some.is) at done.some in
     let puts = rw (← c.self.view_is) at some in
-    first_note_given c.args.self.now _ _ (Packet c.in-Some.size) _ _ c.requires.none held lane inside puts c.pass.ensures.given c.pass.ensures.ended refl refl refl
+    first_note_given c.args.self.now _ _ (Packet c.in-Some.size) _ _ c.requires.none held lane missing inside puts c.pass.ensures.given c.pass.ensures.ended c.pass.ensures.character refl refl refl

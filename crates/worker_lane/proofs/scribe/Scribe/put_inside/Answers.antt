@@ -10,5 +10,5 @@ returns-clause-some c = λ is.
     let told : c.self.inside.inside ≡ true = search rules in
     let none = rw (← c.self.view_is) at c.requires in
     rw (← c.self.view_is) (told_given _ _ _ _ none (c.self.invariant.2 told) told (inside_packet c.self.inside.lane c.self.invariant.0)
-    (ap (λ (l : List Event). record { lane = c.self.inside.lane; waiting = l; held = c.self.inside.reader; inside = false }) none.0)
+    (ap (λ (l : List Event). record { lane = c.self.inside.lane; waiting = l; held = c.self.inside.reader; missing = c.self.inside.character; inside = false }) none.0)
     (search rules))

@@ -4,7 +4,7 @@ use Rattle.worker_lane.proofs.RecordingLemmas.{first_if_given}
 use Rattle.worker_lane.proofs.scribe.Scribe.put_next.Goals as goal
 
 pub returns-else-is_nothing-clause-some : goal.returns-else-is_nothing-clause-some
-returns-else-is_nothing-clause-some c = rw (← c.self.view_is) (first_if_given c.put_first.result _ _ _ _ refl refl refl c.put_first.ensures.given)
+returns-else-is_nothing-clause-some c = rw (← c.self.view_is) (first_if_given c.put_first.result _ _ _ _ refl refl refl refl c.put_first.ensures.given)
 
 pub returns-else-is_nothing-clause-none : goal.returns-else-is_nothing-clause-none
 returns-else-is_nothing-clause-none c =
