@@ -6,7 +6,7 @@ use Rattle.std.specs.Char.{encode_utf8, IsScalar}
 use Rattle.std.proofs.lemmas.Bool.{cond-true, cond-false, lt-ltb, le-ltb, cases_lt}
 use Rattle.std.proofs.Math.Utf8.{scalar, scalar_cases}
 use Rattle.packet_codec.specs.Packet.{signature}
-use Rattle.stream_end.specs.Character.{missing_after_byte, missing_after_bytes}
+use Rattle.stream_end.specs.Character.{missing_after_byte}
 
 -- ---- a byte
 
