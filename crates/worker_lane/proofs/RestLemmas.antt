@@ -11,7 +11,6 @@ use Rattle.stream_reader.specs.Stream.{HasGiven as GivesStream}
 use Rattle.stream_reader.proofs.CutLemmas.{one_cut}
 use Rattle.stream_reader.proofs.FrontLemmas.{are_both}
 use Rattle.stream_reader.proofs.RoomLemmas.{spent_short}
-use Rattle.stream_end.specs.Character.{missing_after_note}
 use Rattle.worker_lane.specs.Inside.{ends_inside_behind, inside_under, inside_events}
 use Rattle.worker_lane.specs.Recorded.{recorded_note, recorded_events}
 use Rattle.worker_lane.specs.Scribing.{Scribing, scribe_holding, finished, TakesNote, TakesInside, IsAsBefore, GivesEvent, HasNone}

@@ -1,6 +1,5 @@
-use Rattle.std.proofs.Common.{◌≡◌, true, false, [], List, ap, rules}
+use Rattle.std.proofs.Common.{◌≡◌, true, false, List, ap, rules}
 use Rattle.packet_codec.specs.declared.event.Event.{Event}
-use Rattle.worker_lane.specs.Scribing.{Scribing}
 use Rattle.worker_lane.proofs.InsideEventLemmas.{inside_packet}
 use Rattle.worker_lane.proofs.RecordingLemmas.{told_given}
 use Rattle.worker_lane.proofs.scribe.Scribe.put_inside.Goals as goal
