@@ -13,7 +13,7 @@ use Rattle.stream_reader.specs.declared.note.Note.{Note}
 use Rattle.stream_reader.specs.declared.note.Note.TheVariants as note
 use Rattle.stream_reader.specs.Notes.{HasEvents, stdout_event}
 use Rattle.stream_reader.proofs.NotesLemmas.{are_full, are_made, packet_pieces, notes_of_packets, events_of_packets, cut_of_written}
-use Rattle.worker_lane.specs.Inside.{ends_inside, inside_event, inside_under, inside_events}
+use Rattle.worker_lane.specs.Inside.{ends_inside, inside_event, inside_events}
 use Rattle.worker_lane.specs.Recorded.{HasRecorded, pieces_of, stdout_under, recorded_event, recorded_events}
 use Rattle.worker_lane.specs.RecordedLanes.{AreRecorded}
 use Rattle.worker_lane.proofs.InsideEventLemmas.{inside_has_packets}

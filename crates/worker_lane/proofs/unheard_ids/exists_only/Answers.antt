@@ -1,4 +1,4 @@
-use Rattle.std.proofs.Common.{◌≡◌, ◌∙◌, true, sym, ap}
+use Rattle.std.proofs.Common.{◌∙◌, sym, ap}
 use Rattle.worker_lane.specs.Lost.{is_exists}
 use Rattle.worker_lane.proofs.SoughtLemmas.{not_exists}
 use Rattle.worker_lane.proofs.unheard_ids.exists_only.Goals as goal

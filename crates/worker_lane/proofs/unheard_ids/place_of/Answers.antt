@@ -1,4 +1,4 @@
-use Rattle.std.proofs.Common.{◌≡◌, false, true, true≢false, Some, [], ap, sym, ◌∙◌}
+use Rattle.std.proofs.Common.{◌≡◌, true, true≢false, Some, [], ap, sym, ◌∙◌}
 use Rattle.std.proofs.lemmas.List.{get_or_read}
 use Rattle.worker_lane.proofs.SoughtLemmas.{none_more, none_of_all}
 use Rattle.worker_lane.proofs.unheard_ids.place_of.Goals as goal

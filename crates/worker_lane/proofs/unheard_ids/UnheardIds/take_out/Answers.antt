@@ -1,5 +1,5 @@
-use Rattle.std.proofs.Common.{◌≡◌, ◌∙◌, ap}
-use Rattle.outcome_fold.specs.Order.{among, without}
+use Rattle.std.proofs.Common.{◌∙◌, ap}
+use Rattle.outcome_fold.specs.Order.{among}
 use Rattle.worker_lane.specs.Sought.{unheard_of}
 use Rattle.worker_lane.proofs.SoughtLemmas.{taken_out, out_is_heard}
 use Rattle.worker_lane.proofs.unheard_ids.UnheardIds.take_out.Goals as goal
