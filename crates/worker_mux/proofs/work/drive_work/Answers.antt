@@ -1,11 +1,11 @@
-use Rattle.std.proofs.Common.{rules}
+use Rattle.std.proofs.Common.{refl, rules}
 use Rattle.worker_mux.proofs.Going.{own_whole, was_put, was_kept, all_put, ready_put, ready_kept, ready_read, was_read}
 use Rattle.worker_mux.proofs.work.drive_work.Goals as goal
 
 pub returns-in-Past : goal.returns-in-Past
 returns-in-Past g c = record {
   ready = search rules;
-  drives = all_put g.C.Child.seen c.args.work c.loop.work c.next-in-loop.new.self c.loop.invariant.keeps c.next-in-loop.ensures.pass c.in-Past.ensures.first c.in-Past.ensures.gives c.in-Past.ensures.none;
+  drives = all_put g.C.Child.seen c.args.work c.loop.work c.next-in-loop.new.self c.loop.invariant.keeps c.next-in-loop.ensures.pass c.in-Past.ensures.first c.in-Past.ensures.gives (c.in-Past.ensures.none refl);
 }
 
 pub loop-preserved-in-Ok : goal.loop-preserved-in-Ok
