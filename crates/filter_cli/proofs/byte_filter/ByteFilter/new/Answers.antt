@@ -7,4 +7,4 @@ use Rattle.filter_cli.proofs.byte_filter.ByteFilter.new.Goals as goal
 pub returns-clause-has : goal.returns-clause-has
 returns-clause-has g c =
     let none = ap (λ (h : Held). h.bytes) c.in-Ok.ensures in
-    subst (λ (l : List ℕ). HasFiltered (g.F.NoteFilter.has c.args.filter) (g.F.NoteFilter.plan c.args.filter) 0 l [] []) (sym none) (filtered_none _ _ c.requires.has)
+    rw (c.none.ensures) (subst (λ (l : List ℕ). HasFiltered (g.F.NoteFilter.has c.args.filter) (g.F.NoteFilter.plan c.args.filter) 0 l [] []) (sym none) (filtered_none _ _ c.requires.has))
