@@ -14,9 +14,9 @@ use trial_calls::{
 // `foo` passed, under lane 1.
 const FOO_KEPT_1: &[u8] = b"\xb3\x2d\x03\x0e\x03foo\x01\x31\xd3\xa8\xeb\x76";
 
-// A site with this file, whose reads fail at these calls.
-fn site_a(alloc: Global, a: &[u8], fails: &[u64]) -> Result<MapSite, Fail> {
-    let mut site = MapSite::new(alloc, fails.to_vec(alloc)?);
+// A site with this file.
+fn site_a(alloc: Global, a: &[u8]) -> Result<MapSite, Fail> {
+    let mut site = MapSite::new(alloc, Vec::new(alloc));
     put_in(alloc, &mut site, b"a", a)?;
     Ok(site)
 }
@@ -28,9 +28,9 @@ fn put_in(alloc: Global, site: &mut MapSite, name: &[u8], bytes: &[u8]) -> Resul
     Ok(())
 }
 
-// Files `a` and `b`, whose reads fail at these calls.
-fn site(alloc: Global, a: &[u8], b: &[u8], fails: &[u64]) -> Result<MapSite, Fail> {
-    let mut site = site_a(alloc, a, fails)?;
+// Files `a` and `b`.
+fn site(alloc: Global, a: &[u8], b: &[u8]) -> Result<MapSite, Fail> {
+    let mut site = site_a(alloc, a)?;
     put_in(alloc, &mut site, b"b", b)?;
     Ok(site)
 }
@@ -61,7 +61,7 @@ fn tells_at<R: Threads + Wait + Sync + AllocGlobal>(
 
 #[test]
 fn one_file_is_recorded_under_lane_0(rt: HostRuntime) -> Result<(), Fail> {
-    let mut site = site(rt.alloc(), FOO, NOTHING, &[])?;
+    let mut site = site(rt.alloc(), FOO, NOTHING)?;
     let mut shelf = repository(rt.alloc(), &[])?;
     let words = ["testr", "load", "a"];
     let run = (words.as_slice(), "0", FOO_KEPT);
@@ -82,7 +82,7 @@ fn is_kept<R: Threads + Wait + Sync + AllocGlobal>(
 
 #[test]
 fn each_file_has_a_lane_of_its_own(rt: HostRuntime) -> Result<(), Fail> {
-    let mut site = site(rt.alloc(), NOTHING, FOO, &[])?;
+    let mut site = site(rt.alloc(), NOTHING, FOO)?;
     let mut shelf = repository(rt.alloc(), &[])?;
     let words = ["testr", "load", "a", "--partial", "b"];
     let run = (words.as_slice(), "0.part", FOO_KEPT_1);
@@ -105,26 +105,10 @@ fn is_refused<R: Threads + Wait + Sync + AllocGlobal>(
 
 #[test]
 fn a_missing_file_is_named(rt: HostRuntime) -> Result<(), Fail> {
-    let mut site = site(rt.alloc(), FOO, NOTHING, &[])?;
+    let mut site = site(rt.alloc(), FOO, NOTHING)?;
     let mut shelf = repository(rt.alloc(), &[])?;
     let line = b"testr: no file c\n";
     assert!(rt; is_refused(&rt, "c", &mut shelf, &mut site, 3, line)?);
-    Ok(())
-}
-
-fn the_read_fails<R: Threads + Wait + Sync + AllocGlobal>(rt: &R, read: u64) -> Result<bool, Fail> {
-    let mut site = site(rt.alloc(), FOO, NOTHING, &[read])?;
-    let mut shelf = repository(rt.alloc(), &[])?;
-    let line = b"testr: fault reading a file\n";
-    is_refused(rt, "b", &mut shelf, &mut site, 4, line)
-}
-
-#[test]
-fn each_read_of_a_file_may_fail(rt: HostRuntime) -> Result<(), Fail> {
-    // The bytes of the first one, its end, and the end of the second.
-    for read in 0..3 {
-        assert!(rt; the_read_fails(&rt, read)?, "read {read}");
-    }
     Ok(())
 }
 

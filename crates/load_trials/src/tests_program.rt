@@ -1,4 +1,4 @@
-//! The program over the forms in memory, with ample memory: the words, the face, and faults of the input and the outputs.
+//! The program over the forms in memory, with ample memory: the words, the face, and faults of the sink of errors.
 
 use edge_io::{ListSink, ListSource, MapSite, MemShelf, PlanSpawner, Shelf};
 use std::alloc::Global;
@@ -8,8 +8,8 @@ use std::test::Fail;
 use std::thread::Threads;
 use testr_cli::testr;
 use trial_calls::{
-    CallOutcome, FOO, FOO_KEPT, NOTHING, PASSED_AS_0, WRONG_USAGE, call_over, has_file, loads,
-    owned, put, repository, sink, source, tells, tells_and_leaves, tells_of,
+    CallOutcome, FOO, FOO_KEPT, NOTHING, PASSED_AS_0, WRONG_USAGE, call_over, owned, put,
+    repository, sink, source, tells, tells_and_leaves, tells_of,
 };
 
 const USAGE: &[u8] = b"usage: testr COMMAND or a subunit filter\n";
@@ -148,75 +148,15 @@ fn a_filters_name_leads_to_the_filters(rt: HostRuntime) -> Result<(), Fail> {
     Ok(())
 }
 
-// Whether a load of which this read fails tells of it.
-fn tells_of_the_read<R: Threads + Wait + Sync + AllocGlobal>(
-    rt: &R,
-    shelf: &mut MemShelf,
-    read: u64,
-) -> Result<bool, Fail> {
-    let mut input = source(rt.alloc(), FOO, 4, &[read])?;
-    let line = b"testr: fault reading standard input\n".as_slice();
-    tells(
-        rt,
-        &["testr", "load"],
-        shelf,
-        &mut input,
-        (4, NOTHING, line),
-    )
-}
-
-// Whether the next load behind it has the number of the failed one.
-fn read_leaves_the_runs<R: Threads + Wait + Sync + AllocGlobal>(
-    rt: &R,
-    read: u64,
-) -> Result<bool, Fail> {
-    let mut shelf = repository(rt.alloc(), &[])?;
-    let wanted = (0, PASSED_AS_0, NOTHING);
-    Ok(tells_of_the_read(rt, &mut shelf, read)? && loads(rt, &mut shelf, FOO, wanted)?)
-}
-
-#[test]
-fn a_failed_read_leaves_the_runs(rt: HostRuntime) -> Result<(), Fail> {
-    // Three reads give four bytes each, and the fourth finds the end.
-    for read in 0..4 {
-        assert!(rt; read_leaves_the_runs(&rt, read)?, "read {read}");
-    }
-    Ok(())
-}
-
-// What a load of `foo` tells over sinks that fail at these writes.
+// What a load of `foo` tells over a sink of errors that fails at these writes.
 fn load_over<R: Threads + Wait + Sync + AllocGlobal>(
     rt: &R,
     shelf: &mut MemShelf,
-    out_fails: &[u64],
     err_fails: &[u64],
 ) -> Result<CallOutcome, Fail> {
     let mut input = source(rt.alloc(), FOO, 12, &[])?;
     let words = ["testr", "load"].as_slice();
-    call_over(rt, words, shelf, &mut input, out_fails, err_fails)
-}
-
-// Whether a load whose report is not written tells this line, and keeps the run under this name.
-fn keeps_unreported<R: Threads + Wait + Sync + AllocGlobal>(
-    rt: &R,
-    shelf: &mut MemShelf,
-    err_fails: &[u64],
-    line: &[u8],
-    name: &str,
-) -> Result<bool, Fail> {
-    Ok(
-        load_over(rt, shelf, &[0], err_fails)?.is(4, NOTHING, line)
-            && has_file(shelf, name, FOO_KEPT)?,
-    )
-}
-
-#[test]
-fn a_failed_write_of_the_report_leaves_the_new_run(rt: HostRuntime) -> Result<(), Fail> {
-    let mut shelf = repository(rt.alloc(), &[])?;
-    let line = b"testr: fault writing output\n";
-    assert!(rt; keeps_unreported(&rt, &mut shelf, &[], line, "0")?);
-    assert!(rt; keeps_unreported(&rt, &mut shelf, &[0], NOTHING, "1")?);
-    Ok(())
+    call_over(rt, words, shelf, &mut input, &[], err_fails)
 }
 
 // Whether a load that lacks run 0 answers 3, and writes a part of its line.
@@ -226,7 +166,7 @@ fn writes_a_part<R: Threads + Wait + Sync + AllocGlobal>(
     write: u64,
 ) -> Result<bool, Fail> {
     let line = b"testr: run 0 is missing\n".as_slice();
-    let told = load_over(rt, shelf, &[], &[write])?;
+    let told = load_over(rt, shelf, &[write])?;
     Ok(told.status == 3 && line.starts_with(&told.err) && told.err.len() < line.len())
 }
 

@@ -676,27 +676,6 @@ fn an_append_that_fails_leaves_the_runs(rt: HostRuntime) -> Result<(), Fail> {
     the_append_fails(&rt, &mut shelf, &mut project)
 }
 
-// Whether a run whose report is not written tells of it, and is kept.
-fn keeps_unreported<R: Threads + Wait + Sync + AllocGlobal>(
-    rt: &R,
-    shelf: &mut MemShelf,
-    project: &mut Project,
-) -> Result<bool, Fail> {
-    let line = b"testr: fault writing output\n".as_slice();
-    Ok(
-        call_in(rt, &["testr", "run"], shelf, project, &[0])?.is(4, NOTHING, line)
-            && has_file(shelf, "0", FOO_KEPT)?,
-    )
-}
-
-#[test]
-fn a_report_that_is_not_written_leaves_the_new_run(rt: HostRuntime) -> Result<(), Fail> {
-    let mut project = project_of(rt.alloc(), CONF, &[(FOO, ENDED)], &[], &[])?;
-    let mut shelf = repository(rt.alloc(), &[])?;
-    assert!(rt; keeps_unreported(&rt, &mut shelf, &mut project)?);
-    Ok(())
-}
-
 // Whether a run without a report is kept, and its status says whether a test failed. The output fails at each write.
 fn is_hidden<R: Threads + Wait + Sync + AllocGlobal>(
     rt: &R,
