@@ -1,5 +1,5 @@
 -- The steps of taking over a folder.
-use Rattle.std.proofs.Common.{◌≡◌, ◌⊎◌, inl, inr, ℕ, ◌<◌, ltb, Option, Some, None, IsSome, IfSome, Bool, true, false, List, refl, sym, ap, ◌∙◌, subst, arith, get_or}
+use Rattle.std.proofs.Common.{◌≡◌, ◌⊎◌, inl, inr, ℕ, ◌<◌, ltb, Option, Some, None, IsSome, IfSome, IfErr, Result, Ok, Err, Bool, true, false, List, refl, sym, ap, ◌∙◌, subst, arith, get_or}
 use Rattle.std.specs.Option.{option_map}
 use Rattle.std.proofs.lemmas.Bool.{cases_lt, lt-ltb, le-ltb}
 use Rattle.edge_io.specs.Disk.{Files, put, Disk, Folder, IsImage, at_rest}
@@ -10,6 +10,7 @@ use Rattle.run_shelf.specs.declared.faults.ShelfCall.{ShelfCall}
 use Rattle.run_shelf.specs.declared.faults.ShelfCall.TheVariants.{Names, Length, ReadAt, StartDraft, Append, SyncDraft, Publish, SyncFolder}
 use Rattle.run_shelf.specs.Adoption.{IsConverted, IsReadyToAdopt, IsAdopted, IsBeingAdopted, PassesAdoption, Adopts, AdoptFails}
 use Rattle.run_shelf.specs.Bases.{Base, base_name, base_in, HoldsBase}
+use Rattle.run_shelf.specs.Clocks.{calls_later, TicksBy, TicksToKeep, TicksAsKept, FailsBehindBase, TicksAsAdopted}
 use Rattle.run_shelf.specs.Images.{AtRest, KeepsFile, PassesFile}
 use Rattle.run_shelf.specs.Outcomes.{KeepFails}
 use Rattle.run_shelf.specs.Repository.{run_of, run_of_files, run_at, run_name, full_name, partial_name, most_runs, format_name, based_format_bytes, HasBasedFormat, base_of, IsRepository}
@@ -126,24 +127,24 @@ module _ (bytes : List ℕ) (holds : HoldsBase bytes) (s m : Folder) (ready : Is
         lasts = λ image left. is_adopted s.disk.published bytes holds ready.converted image (rest_images (put (put s.disk.published base_name bytes) format_name based_format_bytes) image (subst (λ (d : Disk). IsImage d image) disk left));
       }
 
-  reads_base : (t : Folder) → t.disk ≡ m.disk → AdoptFails bytes s t
-  reads_base t same = inr (inl (ap (λ (d : Disk). d.published) same ∙ published))
+  reads_base : (t : Folder) → t.disk ≡ m.disk → t.disk.published ≡ put s.disk.published base_name bytes
+  reads_base t same = ap (λ (d : Disk). d.published) same ∙ published
 
-  fails_then : (call : ShelfCall) (t : Folder) → KeepFails format_name based_format_bytes call m t → AdoptFails bytes s t
+  fails_then : (call : ShelfCall) (t : Folder) → KeepFails format_name based_format_bytes call m t → AdoptFails bytes call s t
   fails_then Names t fails = absurd fails
   fails_then Length t fails = absurd fails
   fails_then ReadAt t fails = absurd fails
-  fails_then StartDraft t fails = reads_base t fails
-  fails_then Append t fails = reads_base t fails
-  fails_then SyncDraft t fails = reads_base t fails
-  fails_then Publish t (inl same) = reads_base t same
+  fails_then StartDraft t fails = inr (reads_base t fails)
+  fails_then Append t fails = inr (reads_base t fails)
+  fails_then SyncDraft t fails = inr (reads_base t fails)
+  fails_then Publish t (inl same) = inr (inl (reads_base t same))
   fails_then Publish t (inr reads) = inr (inr (next t.disk.published reads))
-  fails_then SyncFolder t fails = inr (inr (next t.disk.published fails))
+  fails_then SyncFolder t fails = inr (next t.disk.published fails)
 
 same_published : (s t : Folder) → t.disk ≡ s.disk → t.disk.published ≡ s.disk.published
 same_published s t same = ap (λ (d : Disk). d.published) same
 
-fails_first : (bytes : List ℕ) (call : ShelfCall) (s t : Folder) → KeepFails base_name bytes call s t → AdoptFails bytes s t
+fails_first : (bytes : List ℕ) (call : ShelfCall) (s t : Folder) → KeepFails base_name bytes call s t → AdoptFails bytes call s t
 fails_first bytes Names s t fails = absurd fails
 fails_first bytes Length s t fails = absurd fails
 fails_first bytes ReadAt s t fails = absurd fails
@@ -152,7 +153,7 @@ fails_first bytes Append s t fails = inl (same_published s t fails)
 fails_first bytes SyncDraft s t fails = inl (same_published s t fails)
 fails_first bytes Publish s t (inl same) = inl (same_published s t same)
 fails_first bytes Publish s t (inr reads) = inr (inl reads)
-fails_first bytes SyncFolder s t fails = inr (inl fails)
+fails_first bytes SyncFolder s t fails = inl fails
 
 first_passes : (bytes : List ℕ) (s t : Folder) → PassesFile base_name bytes s t → PassesAdoption bytes s t
 first_passes bytes s t passes = passes_weaker (λ image. IsImage s.disk image ⊎ (image ≡ put s.disk.published base_name bytes)) (λ image. IsImage s.disk image ⊎ IsBeingAdopted bytes s.disk.published image) by s t passes
@@ -163,8 +164,8 @@ first_passes bytes s t passes = passes_weaker (λ image. IsImage s.disk image �
 
 -- where the folder is told or not
 module _ (bytes : List ℕ) (a b : Option Folder) where
-  pub goes_fails_first : (call : ShelfCall) → Goes a b (KeepFails base_name bytes call) → Goes a b (AdoptFails bytes)
-  goes_fails_first call fails = goes_weaker a b (KeepFails base_name bytes call) (AdoptFails bytes) fails (fails_first bytes call)
+  pub goes_fails_first : (call : ShelfCall) → Goes a b (KeepFails base_name bytes call) → Goes a b (AdoptFails bytes call)
+  goes_fails_first call fails = goes_weaker a b (KeepFails base_name bytes call) (AdoptFails bytes call) fails (fails_first bytes call)
 
   pub goes_first_passes : Goes a b (PassesFile base_name bytes) → Goes a b (PassesAdoption bytes)
   goes_first_passes passes = goes_weaker a b (PassesFile base_name bytes) (PassesAdoption bytes) passes (first_passes bytes)
@@ -181,10 +182,18 @@ module _ (bytes : List ℕ) (a b : Option Folder) where
         goes_then a b c (λ s m. IsReadyToAdopt (base_in bytes).count s × KeepsFile base_name bytes s m) (KeepsFile format_name based_format_bytes) (Adopts bytes) both then_kept
         (λ s m t first last. adopts bytes holds s m first.0 first.1 t last)
 
-    pub goes_fails_then : (call : ShelfCall) → Goes b c (KeepFails format_name based_format_bytes call) → Goes a c (AdoptFails bytes)
+    pub goes_fails_then : (call : ShelfCall) → Goes b c (KeepFails format_name based_format_bytes call) → Goes a c (AdoptFails bytes call)
     goes_fails_then call fails =
-        goes_then a b c (λ s m. IsReadyToAdopt (base_in bytes).count s × KeepsFile base_name bytes s m) (KeepFails format_name based_format_bytes call) (AdoptFails bytes) both fails
+        goes_then a b c (λ s m. IsReadyToAdopt (base_in bytes).count s × KeepsFile base_name bytes s m) (KeepFails format_name based_format_bytes call) (AdoptFails bytes call) both fails
         (λ s m t first last. fails_then bytes holds s m first.0 first.1 call t last)
+
+    pub ticks_then : {T : Type 0} (result : Result T ShelfCall) (before between now : ℕ) → TicksBy 5 before between → TicksAsKept result between now
+        → IfErr result (λ call. Goes b c (KeepFails format_name based_format_bytes call)) → TicksAsAdopted bytes result a c before now
+    ticks_then (Ok done) before between now first last fails = last ∙ ap (calls_later 5) first
+    ticks_then (Err call) before between now first last fails = inr (
+      subst (λ (n : ℕ). TicksToKeep call n now) first last,
+      goes_then a b c (KeepsFile base_name bytes) (KeepFails format_name based_format_bytes call) (FailsBehindBase bytes call) kept fails (λ s m t p q. record { between = m; base = p; format = q }),
+    )
 
     pub goes_passes_then : Goes a b (PassesFile base_name bytes) → Goes b c (PassesFile format_name based_format_bytes) → Goes a c (PassesAdoption bytes)
     goes_passes_then passes last =

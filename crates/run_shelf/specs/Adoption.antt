@@ -4,6 +4,8 @@ use Rattle.std.specs.Prelude.{◌≡◌, ◌≢◌, ◌⊎◌, ℕ, ◌<◌, ◌
 use Rattle.std.specs.Option.{option_map}
 use Rattle.edge_io.specs.Disk.{Files, put, Folder, IsImage, at_rest}
 use Rattle.edge_io.specs.Moments.{LeavesOnly, Passes}
+use Rattle.run_shelf.specs.declared.faults.ShelfCall.{ShelfCall}
+use Rattle.run_shelf.specs.declared.faults.ShelfCall.TheVariants.{Names, Length, ReadAt, StartDraft, Append, SyncDraft, Publish, SyncFolder}
 use Rattle.run_shelf.specs.Bases.{base_name, base_in}
 use Rattle.run_shelf.specs.Images.{AtRest}
 use Rattle.run_shelf.specs.Repository.{run_of, run_at, run_name, partial_name, most_runs, format_name, based_format_bytes, base_of, IsRepository}
@@ -46,9 +48,21 @@ pub record Adopts (bytes : List ℕ) (s t : Folder) : Type 0 where
   pub disk : t.disk ≡ at_rest (put (put s.disk.published base_name bytes) format_name based_format_bytes)
   pub lasts : LeavesOnly (IsAdopted bytes s.disk.published) t.disk
 
--- a call failed: reads give the files as they were, or one of these
-abbrev pub AdoptFails : List ℕ → Folder → Folder → Type 0
-AdoptFails bytes s t = (t.disk.published ≡ s.disk.published) ⊎ IsBeingAdopted bytes s.disk.published t.disk.published
+-- reads give the files as they were, or with the base beside them
+abbrev pub HasBaseOrNot : List ℕ → Folder → Folder → Type 0
+HasBaseOrNot bytes s t = (t.disk.published ≡ s.disk.published) ⊎ (t.disk.published ≡ put s.disk.published base_name bytes)
+
+-- This call failed, as the base was kept or the format behind it. Reads give the files as they were or with the base, and only
+-- where a publish failed or the barrier behind it may they give the folder taken over.
+abbrev pub AdoptFails : List ℕ → ShelfCall → Folder → Folder → Type 0
+AdoptFails bytes Names s t = ⊥
+AdoptFails bytes Length s t = ⊥
+AdoptFails bytes ReadAt s t = ⊥
+AdoptFails bytes StartDraft s t = HasBaseOrNot bytes s t
+AdoptFails bytes Append s t = HasBaseOrNot bytes s t
+AdoptFails bytes SyncDraft s t = HasBaseOrNot bytes s t
+AdoptFails bytes Publish s t = (t.disk.published ≡ s.disk.published) ⊎ IsBeingAdopted bytes s.disk.published t.disk.published
+AdoptFails bytes SyncFolder s t = IsBeingAdopted bytes s.disk.published t.disk.published
 
 -- ---- before that
 

@@ -9,6 +9,7 @@ pub mod Faults
 pub mod Holds
 pub mod Looking
 pub mod Outcomes
+pub mod Clocks
 pub mod Stores
 pub mod Sides
 pub mod Openings

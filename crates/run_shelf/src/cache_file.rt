@@ -3,6 +3,7 @@
 ghost use Rattle.std.specs.Prelude.{◌≡◌, IfSome, IfOk, IfErr, OnOk};
 ghost use Rattle.edge_io.specs.Causes.{HasCause, RisesExactlyIf};
 ghost use Rattle.edge_io.specs.Steps.{Goes, Stays};
+ghost use Rattle.run_shelf.specs.Clocks.{TicksAsKept};
 ghost use Rattle.run_shelf.specs.Images.{AtRest};
 ghost use Rattle.run_shelf.specs.Outcomes.{KeepFails, TicksUpTo};
 ghost use Rattle.run_shelf.specs.Sides.{cache_file_name, HoldsCacheFile, KeepsCacheFile, PassesCacheFile, CacheFileFails, cache_file_failed};
@@ -71,6 +72,7 @@ pub fn write_cache_file<H: Shelf>(
     ensures kept { OnOk result (Goes (H.seen shelf.old).told (H.seen shelf.new).told (KeepsCacheFile side bytes.now)) }
     ensures failed { IfErr result (λ call. Goes (H.seen shelf.old).told (H.seen shelf.new).told (KeepFails (cache_file_name side) bytes.now call)) }
     ensures any_moment { Goes (H.seen shelf.old).told (H.seen shelf.new).told (PassesCacheFile side bytes.now) }
+    ensures calls { TicksAsKept result (H.clock shelf.old) (H.clock shelf.new) }
     ensures time { TicksUpTo 5 (H.clock shelf.old) (H.clock shelf.new) }
     ensures cause { HasCause (H.seen shelf.old).faults (H.seen shelf.new).faults result }
 {

@@ -3,6 +3,7 @@
 ghost use Rattle.std.specs.Prelude.{◌≡◌, IfSome, IfOk, IfErr, OnOk, vec_len};
 ghost use Rattle.edge_io.specs.Causes.{HasCause, RisesExactlyIf};
 ghost use Rattle.edge_io.specs.Steps.{Goes, Stays, HasDraft};
+ghost use Rattle.run_shelf.specs.Clocks.{TicksAsWritten, TicksAsPlaced, TicksAsKept, TicksAsMade};
 ghost use Rattle.run_shelf.specs.Drafts.{OfDraft, Writes, DraftFails, PlaceFails};
 ghost use Rattle.run_shelf.specs.Faults.{init_failed, file_failed};
 ghost use Rattle.run_shelf.specs.Images.{AtRest, KeepsFile, PassesFile, MakesRepository, PassesFormat};
@@ -21,7 +22,7 @@ pub fn keep_file<H: Shelf>(shelf: &mut H, name: &str, bytes: &[u8]) -> Result<()
     ensures kept { OnOk result (Goes (H.seen shelf.old).told (H.seen shelf.new).told (KeepsFile name.now bytes.now)) }
     ensures failed { IfErr result (λ call. Goes (H.seen shelf.old).told (H.seen shelf.new).told (KeepFails name.now bytes.now call)) }
     ensures any_moment { Goes (H.seen shelf.old).told (H.seen shelf.new).told (PassesFile name.now bytes.now) }
-    ensures time { TicksUpTo 5 (H.clock shelf.old) (H.clock shelf.new) }
+    ensures time { TicksAsKept result (H.clock shelf.old) (H.clock shelf.new) }
     ensures cause { HasCause (H.seen shelf.old).faults (H.seen shelf.new).faults result }
 {
     write_draft(shelf, bytes)?;
@@ -62,7 +63,7 @@ pub fn read_file<H: Shelf>(
 fn write_draft<H: Shelf>(shelf: &mut H, bytes: &[u8]) -> Result<(), ShelfCall>
     ensures written { OnOk result (Goes (H.seen shelf.old).told (H.seen shelf.new).told (Writes bytes.now)) }
     ensures failed { IfErr result (λ call. Goes (H.seen shelf.old).told (H.seen shelf.new).told (DraftFails call)) }
-    ensures time { TicksUpTo 2 (H.clock shelf.old) (H.clock shelf.new) }
+    ensures time { TicksAsWritten result (H.clock shelf.old) (H.clock shelf.new) }
     ensures cause { HasCause (H.seen shelf.old).faults (H.seen shelf.new).faults result }
 {
     let Ok(()) = shelf.start_draft() else {
@@ -75,14 +76,15 @@ fn write_draft<H: Shelf>(shelf: &mut H, bytes: &[u8]) -> Result<(), ShelfCall>
 }
 
 /// The draft, which there must be, becomes the file of this name, in a folder in which nothing is pending. It is
-/// brought to the disk, gets its name, and the name is brought to the disk. At `Ok` each later stop leaves the file.
+/// brought to the disk, gets its name, and the name is brought to the disk. At `Ok` each later stop leaves the file. The error
+/// is the call that failed, and no call was made behind it.
 pub fn place_draft<H: Shelf>(shelf: &mut H, name: &str) -> Result<(), ShelfCall>
     requires rest { IfSome (H.seen shelf.old).told AtRest }
     requires draft { HasDraft (H.seen shelf.old).told }
     ensures kept { OnOk result (Goes (H.seen shelf.old).told (H.seen shelf.new).told (OfDraft (KeepsFile name.now))) }
     ensures failed { IfErr result (λ call. Goes (H.seen shelf.old).told (H.seen shelf.new).told (OfDraft (λ bytes. PlaceFails name.now bytes call))) }
     ensures any_moment { Goes (H.seen shelf.old).told (H.seen shelf.new).told (OfDraft (PassesFile name.now)) }
-    ensures time { TicksUpTo 3 (H.clock shelf.old) (H.clock shelf.new) }
+    ensures time { TicksAsPlaced result (H.clock shelf.old) (H.clock shelf.new) }
     ensures cause { HasCause (H.seen shelf.old).faults (H.seen shelf.new).faults result }
 {
     let Ok(()) = shelf.sync_draft() else {
@@ -110,13 +112,15 @@ pub const BASED_FORMAT_BYTES: &[u8] = b"subunit-store 2\n";
 /// memory.
 ///
 /// `Exists` comes exactly where the file `format` is there, and `Shelf` only where a call of the folder failed. Before the
-/// publish the files are then as they were, at it `format` is there or not, after it `format` is there. A stop at any
-/// moment leaves what one before the call might have left, or the files as read before it with `format` beside them;
-/// after `Ok` each later stop leaves `format`.
+/// publish the files are then as they were, at it `format` is there or not, after it `format` is there. No call was made
+/// behind the one that failed, so the clock tells the first barrier from the last. A stop at any moment leaves what one
+/// before the call might have left, or the files as read before it with `format` beside them; after `Ok` each later stop
+/// leaves `format`.
 pub fn make_repository<H: Shelf>(shelf: &mut H) -> Result<(), InitFault>
     ensures made { OnOk result (Goes (H.seen shelf.old).told (H.seen shelf.new).told MakesRepository) }
     ensures refused { IfErr result (λ fault. Goes (H.seen shelf.old).told (H.seen shelf.new).told (InitFails fault)) }
     ensures any_moment { Goes (H.seen shelf.old).told (H.seen shelf.new).told PassesFormat }
+    ensures time { TicksAsMade result (H.seen shelf.old).told (H.seen shelf.new).told (H.clock shelf.old) (H.clock shelf.new) }
     ensures cause { RisesExactlyIf (H.seen shelf.old).faults (H.seen shelf.new).faults (init_failed result) }
 {
     let Ok(()) = shelf.sync_folder() else {

@@ -4,6 +4,7 @@ ghost use Rattle.std.specs.Prelude.{◌≡◌, ◌<◌, ◌++◌, ◌∷◌, [],
 ghost use Rattle.std.specs.Io.{ReadsAtMost};
 ghost use Rattle.edge_io.specs.Causes.{HasCause, RisesExactlyIf};
 ghost use Rattle.edge_io.specs.Steps.{Goes, Stays, Ticks, HasDraft, Opened, Dropped, Grown, GrownInPart};
+ghost use Rattle.run_shelf.specs.Clocks.{TicksAsPlaced, TicksAsCommitted};
 ghost use Rattle.run_shelf.specs.Drafts.{OfDraft, PlaceFails};
 ghost use Rattle.run_shelf.specs.Holds.{kinds_of, HasRoom, FitsWhereTold};
 ghost use Rattle.run_shelf.specs.Images.{KeepsRun, PassesRun, PassesOld};
@@ -55,9 +56,10 @@ pub fn add_packet<H: Shelf>(shelf: &mut H, packet: &[u8]) -> Result<(), ShelfCal
 /// no memory, and makes at most three calls of the folder. There must be room for the run in what was found, which must fit
 /// the folder, and fewer than 1,000,000 runs.
 ///
-/// At `Ok` each later stop leaves the run and those before it. The error is the call of the folder that failed: before
-/// the publish the files are as they were, at it the run is there or not, after it the run is there. A stop at any moment
-/// leaves what one before the call might have left, or the files as read before it with the run beside them.
+/// At `Ok` each later stop leaves the run and those before it. The error is the call of the folder that failed, and no call
+/// was made behind it: before the publish the files are as they were, at it the run is there or not, after it the run is
+/// there. A stop at any moment leaves what one before the call might have left, or the files as read before it with the run
+/// beside them.
 pub fn finish_run<H: Shelf>(
     shelf: &mut H,
     found: &mut Found,
@@ -74,6 +76,7 @@ pub fn finish_run<H: Shelf>(
     ensures kinds_err { OnErr result (kinds_of found.new ≡ kinds_of found.old) }
     ensures failed { IfErr result (λ call. Goes (H.seen shelf.old).told (H.seen shelf.new).told (OfDraft (λ bytes. PlaceFails (run_name (length (kinds_of found.old)) partial) bytes call))) }
     ensures any_moment { Goes (H.seen shelf.old).told (H.seen shelf.new).told (OfDraft (λ bytes. PassesRun (length (kinds_of found.old)) (run_of partial bytes))) }
+    ensures calls { TicksAsPlaced result (H.clock shelf.old) (H.clock shelf.new) }
     ensures time { TicksUpTo 3 (H.clock shelf.old) (H.clock shelf.new) }
     ensures cause { HasCause (H.seen shelf.old).faults (H.seen shelf.new).faults result }
 {
@@ -206,6 +209,7 @@ impl<'h, H: Shelf> Recorder<'h, H> {
         ensures failed { IfErr result.1 (λ fault. Goes (H.seen self.entry.shelf.now).told (H.seen result.0.shelf.now).told (FinishFails (run_name (length (recorder_kinds self.entry)) (recorder_partial self.entry)) fault)) }
         ensures closes { Closes (recorder_fault self.entry) (store_fault result.0) result.1 }
         ensures any_moment { Goes (H.seen self.entry.shelf.now).told (H.seen result.0.shelf.now).told (PassesRecorded (length (recorder_kinds self.entry)) (recorder_partial self.entry)) }
+        ensures time { TicksAsCommitted result.1 (H.clock self.entry.shelf.now) (H.clock result.0.shelf.now) }
         ensures cause { RisesExactlyIf (H.seen self.entry.shelf.now).faults (H.seen result.0.shelf.now).faults (store_failed result.1) }
     {
         let Recorder { shelf, recording } = self;

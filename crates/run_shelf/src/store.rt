@@ -5,6 +5,7 @@ ghost use Rattle.std.specs.Borrow.{sem, RestsIfErr};
 ghost use Rattle.std.specs.Io.{ReadsAtMost};
 ghost use Rattle.edge_io.specs.Causes.{RisesExactlyIf};
 ghost use Rattle.edge_io.specs.Steps.{Goes, Opened};
+ghost use Rattle.run_shelf.specs.Clocks.{TicksAsMade, TicksAsPut};
 ghost use Rattle.run_shelf.specs.Faults.{init_failed};
 ghost use Rattle.run_shelf.specs.Holds.{kinds_of};
 ghost use Rattle.run_shelf.specs.Images.{MakesRepository, PassesFormat, PassesOld};
@@ -41,6 +42,7 @@ impl<'h, H: Shelf> Store<'h, H> {
         ensures made { OnOk result (Goes (H.seen shelf.old).told (H.seen shelf.new).told MakesRepository) }
         ensures refused { IfErr result (λ fault. Goes (H.seen shelf.old).told (H.seen shelf.new).told (InitFails fault)) }
         ensures any_moment { Goes (H.seen shelf.old).told (H.seen shelf.new).told PassesFormat }
+        ensures time { TicksAsMade result (H.seen shelf.old).told (H.seen shelf.new).told (H.clock shelf.old) (H.clock shelf.new) }
         ensures cause { RisesExactlyIf (H.seen shelf.old).faults (H.seen shelf.new).faults (init_failed result) }
     {
         make_repository(shelf)
@@ -199,6 +201,7 @@ impl<'h, H: Shelf> Store<'h, H> {
         ensures closes { Closes (store_fault self.old) (store_fault self.new) result }
         ensures kinds { store_kinds self.new ≡ store_kinds self.old }
         ensures fits { FitsUnlessBroken (store_kinds self.new) (store_fault self.new) (H.seen self.new.shelf.now).told }
+        ensures calls { TicksAsPut result (H.clock self.old.shelf.now) (H.clock self.new.shelf.now) }
         ensures time { TicksUpTo 5 (H.clock self.old.shelf.now) (H.clock self.new.shelf.now) }
         ensures cause { RisesExactlyIf (H.seen self.old.shelf.now).faults (H.seen self.new.shelf.now).faults (store_failed result) }
     {
