@@ -3,7 +3,7 @@
 use crate::homes::{check_cause, enter_home, holds, is_there, leave_home, shell};
 use crate::parts::begins;
 use edge_io::{Child, Failed, IdFile, Job, Spawner};
-use real_outside::{Errors, RealChild, RealSpawner};
+use real_outside::{Errors, Programs, RealChild, RealSpawner};
 use std::alloc::Global;
 use std::io::ErrorKind;
 use std::process::Abort;
@@ -199,6 +199,56 @@ fn ends_stopped(rt: &HostRuntime, command: &str) -> bool {
 #[test]
 fn a_child_is_stopped(rt: HostRuntime) {
     assert!(rt; ends_stopped(&rt, "echo ready; exec sleep 600"));
+}
+
+// Whether a child that prints is stopped, and with it the one beside it, of which nothing came.
+fn both_are_stopped<C: Child>(silent: &mut C, loud: &mut C) -> bool {
+    let mut buf = [0u8; 9];
+    is_stopped(loud)
+        && silent.read(&mut buf) == Ok(0)
+        && silent.wait() == Ok(-9)
+        && silent.wait() == Ok(-9)
+}
+
+fn starts_both(
+    rt: &HostRuntime,
+    programs: &Programs<<HostRuntime as Processes>::Started>,
+    silent: &Job,
+    loud: &Job,
+) -> Result<bool, Failed> {
+    let mut spawner = RealSpawner::new(rt.alloc(), rt, Errors::Inherited).among(programs);
+    let mut silent = spawner.start(silent)?;
+    let mut loud = spawner.start(loud)?;
+    Ok(both_are_stopped(&mut silent, &mut loud))
+}
+
+fn stops_among(rt: &HostRuntime) -> bool {
+    let Ok(programs) = Programs::new(rt.alloc(), 2) else {
+        return false;
+    };
+    let (Some(silent), Some(loud)) = (
+        plain_job(rt.alloc(), "exec sleep 600"),
+        plain_job(rt.alloc(), "echo ready; exec sleep 600"),
+    ) else {
+        return false;
+    };
+    starts_both(rt, &programs, &silent, &loud) == Ok(true)
+}
+
+// A silent program is stopped with the one beside it.
+#[test]
+fn programs_are_stopped_together(rt: HostRuntime) {
+    assert!(rt; stops_among(&rt));
+}
+
+// A program that was waited for has left its place to another.
+#[test]
+fn a_place_is_taken_again(rt: HostRuntime) -> Result<(), Fail> {
+    let programs = Programs::new(rt.alloc(), 1)?;
+    let mut spawner = RealSpawner::new(rt.alloc(), &rt, Errors::Inherited).among(&programs);
+    assert!(rt; next_gives(&mut spawner, rt.alloc(), "echo one", b"one\n"));
+    assert!(rt; next_gives(&mut spawner, rt.alloc(), "echo two", b"two\n"));
+    Ok(())
 }
 
 fn check_ids(rt: &impl Abort, host: &HostRuntime, before: &str) -> io::Result<()> {

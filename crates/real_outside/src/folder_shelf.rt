@@ -5,26 +5,38 @@ use crate::cause::Cause;
 use crate::fault_count::Faults;
 use crate::folder::Folder;
 use crate::lock::Sharing;
+use crate::programs::Programs;
 use edge_io::{Failed, NamesFault, Shelf};
 use std::alloc::Global;
 use std::fs::{File, Files};
+use std::process::Processes;
+use std::sync::Wait;
 use sub_number::Text;
 
 /// The folder `.testrepository` of the current folder. Counts its calls, and those that fail. The first call that finds
 /// the folder there, or makes it, takes the lock on the file `lock` in it, and where runs are added that on `writer`, for as
 /// long as this value lasts. Where another program keeps it out, that call and all later ones fail.
 #[derive(Drop)]
-pub struct FolderShelf<'r, R> {
+pub struct FolderShelf<'r, R: Processes> {
     folder: Folder<'r, R>,
+    stops: Option<Stops<'r, R>>,
     calls: u64,
     faults: Faults,
 }
 
-impl<'r, R: Files<File = File>> FolderShelf<'r, R> {
+// The programs that are stopped where nothing can be added to the draft any more.
+#[derive(Drop)]
+struct Stops<'r, R: Processes> {
+    rt: &'r R,
+    programs: &'r Programs<R::Started>,
+}
+
+impl<'r, R: Files<File = File> + Processes> FolderShelf<'r, R> {
     /// The folder as it stands, before any call. Where the lock is shared, no draft can be begun.
     pub fn new(alloc: Global, rt: &'r R, sharing: Sharing) -> Self {
         FolderShelf {
             folder: Folder::new(alloc, rt, sharing),
+            stops: None,
             calls: 0,
             faults: Faults::new(),
         }
@@ -35,8 +47,18 @@ impl<'r, R: Files<File = File>> FolderShelf<'r, R> {
     pub fn taking_over(self) -> Self {
         FolderShelf {
             folder: self.folder.taking_over(),
+            stops: self.stops,
             calls: self.calls,
             faults: self.faults,
+        }
+    }
+
+    /// The same, which stops these programs where nothing can be added to the draft any more: the run that they print is not
+    /// kept then, and one that is silent would be waited for else.
+    pub fn stopping(self, rt: &'r R, programs: &'r Programs<R::Started>) -> Self {
+        FolderShelf {
+            stops: Some(Stops { rt, programs }),
+            ..self
         }
     }
 
@@ -51,7 +73,8 @@ impl<'r, R: Files<File = File>> FolderShelf<'r, R> {
     }
 }
 
-impl<R: Files<File = File> + AllocGlobal + Clone + Drop> Shelf for FolderShelf<'_, R> {
+impl<R: Files<File = File> + Processes + Wait + AllocGlobal + Clone + Drop> Shelf
+    for FolderShelf<'_, R> {
     ghost seen = { λ s. record { told = None; faults = s.faults.count } };
 
     ghost clock = { λ s. s.calls };
@@ -86,11 +109,14 @@ impl<R: Files<File = File> + AllocGlobal + Clone + Drop> Shelf for FolderShelf<'
         self.faults.counted(result)
     }
 
-    /// Adds to the draft. What is small waits in memory until more comes, or until the draft is synced or published. The
-    /// file is removed where it fails.
+    /// Adds to the draft. What is small waits in memory until more comes, or until the draft is synced or published. Where it
+    /// fails the file is removed, and the programs are stopped that it was said of.
     fn append(&mut self, piece: &[u8]) -> Result<(), Failed> {
         self.calls = self.calls.saturating_add(1);
         let result = self.folder.append(piece);
+        if let (Err(_), Some(stops)) = (&result, &self.stops) {
+            stops.programs.stop(stops.rt);
+        }
         self.faults.counted(result)
     }
 

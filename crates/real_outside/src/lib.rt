@@ -7,6 +7,7 @@
 //! - `lock`, `identity`: who may use the folder beside others, and whether a name still leads to the file that was opened
 //! - `real_new_files`: files that take their names at the end
 //! - `real_spawner`, `real_child`, `written_ids`: worker processes, and the files of ids that they are told
+//! - `programs`: those that run beside each other, where whoever meets a fault can stop them all
 //! - `real_site`, `working_folder`: files of the project by name, and the folder that names begin at
 //! - `stream_source`, `stream_sink`, `descriptors`: standard input and outputs, also where they are closed
 //! - `cause`, `fault_count`: why a call of the system failed, and the count of such faults
@@ -21,6 +22,7 @@ mod folder;
 mod folder_shelf;
 mod identity;
 mod lock;
+mod programs;
 mod published_files;
 mod real_child;
 mod real_new_files;
@@ -35,6 +37,7 @@ pub use cause::Cause;
 pub use descriptors::{Held, hold_closed};
 pub use folder_shelf::FolderShelf;
 pub use lock::Sharing;
+pub use programs::Programs;
 pub use real_child::RealChild;
 pub use real_new_files::RealNewFiles;
 pub use real_site::RealSite;

@@ -4,6 +4,7 @@ ghost use Rattle.std.specs.Io.{ReadsAtMost};
 
 use crate::cause::{Cause, told};
 use crate::fault_count::Faults;
+use crate::programs::Programs;
 use crate::stream_source::read_retried;
 use crate::written_ids::WrittenIds;
 use edge_io::{Child, Failed};
@@ -11,6 +12,7 @@ use std::fs::Files;
 use std::io::ErrorKind;
 use std::os::unix::process::ExitStatusExt;
 use std::process::{ExitStatus, OpenProcess, Processes};
+use std::sync::Wait;
 use std::{io, process};
 
 const OUTPUT: &str = "the output of a program";
@@ -24,19 +26,43 @@ pub struct RealChild<'r, R: Processes> {
     faults: Faults,
 }
 
-// The shell, and the file of ids that it reads, until it was waited for.
+// The shell, which stands among other programs or here, its output until it was stopped, and the file of ids that it reads
+// until it was waited for.
 #[derive(Drop)]
 struct Running<'r, R: Processes> {
     rt: &'r R,
-    process: process::Child<R::Started>,
+    among: Option<Place<'r, R>>,
+    process: Option<process::Child<R::Started>>,
+    output: Option<<R::Started as OpenProcess>::Stdout>,
     ids: Option<WrittenIds>,
 }
 
-impl<'r, R: Processes + Files> RealChild<'r, R> {
-    /// The child over this process, whose file of ids is removed when it was waited for.
-    pub fn new(rt: &'r R, process: process::Child<R::Started>, ids: Option<WrittenIds>) -> Self {
+// A place among programs.
+#[derive(Drop)]
+struct Place<'r, R: Processes> {
+    programs: &'r Programs<R::Started>,
+    number: usize,
+}
+
+impl<'r, R: Processes + Files + Wait> RealChild<'r, R> {
+    /// The child over this process, whose file of ids is removed when it was waited for. It is put among the programs, where
+    /// there are any and they have room: whoever stops one of these stops all.
+    pub fn new(
+        rt: &'r R,
+        programs: Option<&'r Programs<R::Started>>,
+        mut process: process::Child<R::Started>,
+        ids: Option<WrittenIds>,
+    ) -> Self {
+        let output = process.stdout.take();
+        let (among, process) = placed(rt, programs, process);
         RealChild {
-            running: Running { rt, process, ids },
+            running: Running {
+                rt,
+                among,
+                process,
+                output,
+                ids,
+            },
             faults: Faults::new(),
         }
     }
@@ -47,19 +73,41 @@ impl<'r, R: Processes + Files> RealChild<'r, R> {
     }
 }
 
-impl<R: Processes + Files> Running<'_, R> {
+// Puts the process among the programs, or gives it back.
+fn placed<'r, R: Processes + Wait>(
+    rt: &'r R,
+    programs: Option<&'r Programs<R::Started>>,
+    process: process::Child<R::Started>,
+) -> (Option<Place<'r, R>>, Option<process::Child<R::Started>>) {
+    let Some(programs) = programs else {
+        return (None, Some(process));
+    };
+    match programs.put(rt, process) {
+        Ok(number) => (Some(Place { programs, number }), None),
+        Err(process) => (None, Some(process)),
+    }
+}
+
+impl<R: Processes + Files + Wait> Running<'_, R> {
     fn read(&mut self, buf: &mut [u8]) -> io::Result<usize>
         ensures { ReadsAtMost result buf.new }
     {
-        match &mut self.process.stdout {
+        match &mut self.output {
             Some(output) => read_retried(output, buf),
             None => Ok(0),
         }
     }
 
-    // The file of ids is removed also where the wait fails, since then the system has lost the child.
+    // Who waits has the process for itself, so that no other has to wait for it. The file of ids is removed also where the
+    // wait fails, since then the system has lost the child.
     fn wait(&mut self) -> io::Result<i32> {
-        let outcome = self.process.wait();
+        if let Some(place) = self.among.take() {
+            self.process = place.programs.take(self.rt, place.number);
+        }
+        let outcome = match &mut self.process {
+            Some(process) => process.wait(),
+            None => Err(io::Error::from(ErrorKind::NotFound)),
+        };
         if let Some(ids) = self.ids.take() {
             ids.remove(self.rt);
         }
@@ -67,12 +115,17 @@ impl<R: Processes + Files> Running<'_, R> {
     }
 
     fn stop(&mut self) {
-        let _ = self.process.kill();
-        self.process.stdout = None;
+        if let Some(place) = &self.among {
+            place.programs.stop(self.rt);
+        }
+        if let Some(process) = &mut self.process {
+            let _ = process.kill();
+        }
+        self.output = None;
     }
 }
 
-impl<R: Processes + Files> Child for RealChild<'_, R> {
+impl<R: Processes + Files + Wait> Child for RealChild<'_, R> {
     ghost seen = { λ s. record { told = None; faults = s.faults.count } };
 
     ghost are_bytes = { λ _. tt };
@@ -91,7 +144,9 @@ impl<R: Processes + Files> Child for RealChild<'_, R> {
         self.faults.counted(told("wait for", PROGRAM, result))
     }
 
-    /// Kills the shell, and closes the pipe, so that what the shell has started is ended by its next write.
+    /// Kills the shell, and all that stand among the same programs: a program is stopped where none is of use any more, and
+    /// whoever waits for another's output then need not wait longer. Closes the pipe, so that what the shell has started is
+    /// ended by its next write.
     fn stop(&mut self) {
         self.running.stop();
     }

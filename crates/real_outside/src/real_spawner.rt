@@ -3,6 +3,7 @@ ghost use Rattle.std.specs.Prelude.{None};
 
 use crate::cause::Cause;
 use crate::fault_count::Faults;
+use crate::programs::Programs;
 use crate::real_child::RealChild;
 use crate::written_ids::{LeftIds, WrittenIds};
 use edge_io::{Failed, Job, Spawner};
@@ -10,6 +11,7 @@ use std::alloc::Global;
 use std::fs::{File, Files};
 use std::io::ErrorKind;
 use std::process::{Command, OpenProcess, Processes, Stdio};
+use std::sync::Wait;
 use std::{io, process};
 
 /// Where a program that is started writes its errors.
@@ -24,24 +26,35 @@ pub enum Errors {
 /// Starts each command as `sh -c COMMAND` in the current folder, with an empty standard input, a pipe as standard output,
 /// and standard error as was said. Counts the starts that fail.
 #[derive(Drop)]
-pub struct RealSpawner<'r, R> {
+pub struct RealSpawner<'r, R: Processes> {
     rt: &'r R,
     alloc: Global,
     errors: Errors,
+    // Where the programs that it starts stand beside each other.
+    programs: Option<&'r Programs<R::Started>>,
     // What the first start removes.
     left: Option<LeftIds>,
     faults: Faults,
 }
 
-impl<'r, R> RealSpawner<'r, R> {
+impl<'r, R: Processes> RealSpawner<'r, R> {
     /// No start has failed yet.
     pub fn new(alloc: Global, rt: &'r R, errors: Errors) -> Self {
         RealSpawner {
             rt,
             alloc,
             errors,
+            programs: None,
             left: None,
             faults: Faults::new(),
+        }
+    }
+
+    /// The same, whose programs stand among these: where one is stopped all are.
+    pub fn among(self, programs: &'r Programs<R::Started>) -> Self {
+        RealSpawner {
+            programs: Some(programs),
+            ..self
         }
     }
 
@@ -62,7 +75,7 @@ impl<'r, R> RealSpawner<'r, R> {
 
 impl<'r, R> Spawner for RealSpawner<'r, R>
 where
-    R: Processes + Files<File = File> + Sync,
+    R: Processes + Files<File = File> + Wait + Sync,
     R::Started: Send,
     <R::Started as OpenProcess>::Stdin: Send,
     <R::Started as OpenProcess>::Stdout: Send,
@@ -77,17 +90,18 @@ where
         if let Some(left) = self.left.take() {
             left.remove(self.alloc, self.rt);
         }
-        match started(self.alloc, self.rt, self.errors, job) {
+        match started(self.alloc, self.rt, self.errors, self.programs, job) {
             Ok(child) => Ok(child),
             Err(cause) => Err(self.faults.fail(cause)),
         }
     }
 }
 
-fn started<'r, R: Processes + Files<File = File>>(
+fn started<'r, R: Processes + Files<File = File> + Wait>(
     alloc: Global,
     rt: &'r R,
     errors: Errors,
+    programs: Option<&'r Programs<R::Started>>,
     job: &Job,
 ) -> Result<RealChild<'r, R>, Cause> {
     let ids = match &job.id_file {
@@ -95,7 +109,7 @@ fn started<'r, R: Processes + Files<File = File>>(
         None => None,
     };
     match spawned(alloc, rt, errors, job.command.bytes()) {
-        Ok(process) => Ok(RealChild::new(rt, process, ids)),
+        Ok(process) => Ok(RealChild::new(rt, programs, process, ids)),
         Err(error) => {
             if let Some(ids) = ids {
                 ids.remove(rt);

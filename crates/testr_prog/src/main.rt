@@ -11,8 +11,8 @@ use either::Either;
 use filter_to_file::filters_to_file;
 use help_texts::{Parted, help_of_testr, take_folder_words, take_output_words};
 use real_outside::{
-    Cause, Errors, FolderShelf, Outlet, RealNewFiles, RealSite, RealSpawner, Sharing, StreamSink,
-    StreamSource, enter_folder, hold_closed,
+    Cause, Errors, FolderShelf, Outlet, Programs, RealNewFiles, RealSite, RealSpawner, Sharing,
+    StreamSink, StreamSource, enter_folder, hold_closed,
 };
 use std::alloc::Global;
 use std::env::Env;
@@ -228,8 +228,9 @@ fn run_to_file(rt: &HostRuntime, words: &[String], name: &str, err: &mut StreamS
     status
 }
 
-// Calls the program on the real objects. After a fault the line that says which object failed has one more behind it,
-// that says why.
+// Calls the program on the real objects. The workers of a run stand beside each other, so that each is stopped where the folder
+// fails or another wants memory, also one that is silent. After a fault the line that says which object failed has one more
+// behind it, that says why.
 fn run_program<R: Threads + Wait + Sync>(
     threads: &R,
     rt: &HostRuntime,
@@ -239,9 +240,12 @@ fn run_program<R: Threads + Wait + Sync>(
     err: &mut StreamSink<Stderr>,
 ) -> u8 {
     let alloc = rt.alloc();
-    let mut shelf = shelf_of(alloc, rt, words);
+    let Ok(programs) = Programs::new(alloc, MOST_WORKERS) else {
+        return out_of_memory(err);
+    };
+    let mut shelf = shelf_of(alloc, rt, words).stopping(rt, &programs);
     let mut input = StreamSource::new(rt.stdin(), "standard input");
-    let mut spawner = spawner_of(alloc, rt, errors, words);
+    let mut spawner = spawner_of(alloc, rt, errors, words).among(&programs);
     let mut site = RealSite::new(alloc, rt, working_folder(alloc, rt));
     let may_begin = adds_run(words) && !is_file(rt, FORMAT);
     let status = program(
