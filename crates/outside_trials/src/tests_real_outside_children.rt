@@ -6,7 +6,7 @@ use edge_io::{Child, Failed, IdFile, Job, Spawner};
 use real_outside::{Errors, Programs, RealChild, RealSpawner};
 use std::alloc::Global;
 use std::io::ErrorKind;
-use std::process::Abort;
+use std::process::{Abort, Processes};
 use std::test::Fail;
 use std::{fs, io};
 use sub_number::{Bytes, Text};

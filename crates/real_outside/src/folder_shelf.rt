@@ -10,7 +10,6 @@ use edge_io::{Failed, NamesFault, Shelf};
 use std::alloc::Global;
 use std::fs::{File, Files};
 use std::process::Processes;
-use std::sync::Wait;
 use sub_number::Text;
 
 /// The folder `.testrepository` of the current folder. Counts its calls, and those that fail. The first call that finds
@@ -19,16 +18,10 @@ use sub_number::Text;
 #[derive(Drop)]
 pub struct FolderShelf<'r, R: Processes> {
     folder: Folder<'r, R>,
-    stops: Option<Stops<'r, R>>,
+    // Those that are stopped where nothing can be added to the draft any more.
+    programs: Option<&'r Programs<R::Started>>,
     calls: u64,
     faults: Faults,
-}
-
-// The programs that are stopped where nothing can be added to the draft any more.
-#[derive(Drop)]
-struct Stops<'r, R: Processes> {
-    rt: &'r R,
-    programs: &'r Programs<R::Started>,
 }
 
 impl<'r, R: Files<File = File> + Processes> FolderShelf<'r, R> {
@@ -36,7 +29,7 @@ impl<'r, R: Files<File = File> + Processes> FolderShelf<'r, R> {
     pub fn new(alloc: Global, rt: &'r R, sharing: Sharing) -> Self {
         FolderShelf {
             folder: Folder::new(alloc, rt, sharing),
-            stops: None,
+            programs: None,
             calls: 0,
             faults: Faults::new(),
         }
@@ -47,7 +40,7 @@ impl<'r, R: Files<File = File> + Processes> FolderShelf<'r, R> {
     pub fn taking_over(self) -> Self {
         FolderShelf {
             folder: self.folder.taking_over(),
-            stops: self.stops,
+            programs: self.programs,
             calls: self.calls,
             faults: self.faults,
         }
@@ -55,9 +48,9 @@ impl<'r, R: Files<File = File> + Processes> FolderShelf<'r, R> {
 
     /// The same, which stops these programs where nothing can be added to the draft any more: the run that they print is not
     /// kept then, and one that is silent would be waited for else.
-    pub fn stopping(self, rt: &'r R, programs: &'r Programs<R::Started>) -> Self {
+    pub fn stopping(self, programs: &'r Programs<R::Started>) -> Self {
         FolderShelf {
-            stops: Some(Stops { rt, programs }),
+            programs: Some(programs),
             ..self
         }
     }
@@ -73,8 +66,7 @@ impl<'r, R: Files<File = File> + Processes> FolderShelf<'r, R> {
     }
 }
 
-impl<R: Files<File = File> + Processes + Wait + AllocGlobal + Clone + Drop> Shelf
-    for FolderShelf<'_, R> {
+impl<R: Files<File = File> + Processes + AllocGlobal + Clone + Drop> Shelf for FolderShelf<'_, R> {
     ghost seen = { λ s. record { told = None; faults = s.faults.count } };
 
     ghost clock = { λ s. s.calls };
@@ -114,8 +106,8 @@ impl<R: Files<File = File> + Processes + Wait + AllocGlobal + Clone + Drop> Shel
     fn append(&mut self, piece: &[u8]) -> Result<(), Failed> {
         self.calls = self.calls.saturating_add(1);
         let result = self.folder.append(piece);
-        if let (Err(_), Some(stops)) = (&result, &self.stops) {
-            stops.programs.stop(stops.rt);
+        if let (Err(_), Some(programs)) = (&result, self.programs) {
+            programs.stop();
         }
         self.faults.counted(result)
     }

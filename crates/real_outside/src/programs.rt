@@ -3,7 +3,7 @@
 use std::alloc::Global;
 use std::process;
 use std::process::OpenProcess;
-use std::sync::{Mutex, Wait};
+use std::sync::{Mutex, MutexGuard};
 use sub_number::NoMemory;
 
 /// The programs that were started and not waited for yet: as many as there is room for.
@@ -23,14 +23,11 @@ impl<P: OpenProcess + Drop> Programs<P> {
     }
 
     /// Puts the program where none stands, and answers the place. Where there is no room it comes back.
-    pub fn put<W: Wait>(
-        &self,
-        rt: &W,
-        process: process::Child<P>,
-    ) -> Result<usize, process::Child<P>> {
+    pub fn put(&self, process: process::Child<P>) -> Result<usize, process::Child<P>> {
         for place in 0..self.places.len() {
-            let mut slot = self.places[place].lock(rt);
-            if slot.is_none() {
+            if let Some(mut slot) = locked(&self.places[place])
+                && slot.is_none()
+            {
                 *slot = Some(process);
                 return Ok(place);
             }
@@ -38,20 +35,29 @@ impl<P: OpenProcess + Drop> Programs<P> {
         Err(process)
     }
 
-    /// Takes the program from the place, where one stands there. None stops it then but who has it.
-    pub fn take<W: Wait>(&self, rt: &W, place: usize) -> Option<process::Child<P>> {
-        match self.places.get(place) {
-            Some(slot) => slot.lock(rt).take(),
-            None => None,
-        }
+    /// Takes the program from the place, where one stands there. Then only who has it can stop it.
+    pub fn take(&self, place: usize) -> Option<process::Child<P>> {
+        locked(self.places.get(place)?)?.take()
     }
 
     /// Kills them all. Each stays in its place, to be waited for.
-    pub fn stop<W: Wait>(&self, rt: &W) {
+    pub fn stop(&self) {
         for slot in self.places.as_slice() {
-            if let Some(process) = &mut *slot.lock(rt) {
+            if let Some(mut slot) = locked(slot)
+                && let Some(process) = &mut *slot
+            {
                 let _ = process.kill();
             }
         }
     }
+}
+
+// The lock of a place. Whoever has it makes one call of the system that does not wait, so it is asked for until it is free.
+fn locked<T>(slot: &Mutex<T>) -> Option<MutexGuard<'_, T>> {
+    for _ in 0..u64::MAX {
+        if let Some(guard) = slot.try_lock() {
+            return Some(guard);
+        }
+    }
+    None
 }

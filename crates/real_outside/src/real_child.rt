@@ -12,7 +12,6 @@ use std::fs::Files;
 use std::io::ErrorKind;
 use std::os::unix::process::ExitStatusExt;
 use std::process::{ExitStatus, OpenProcess, Processes};
-use std::sync::Wait;
 use std::{io, process};
 
 const OUTPUT: &str = "the output of a program";
@@ -44,7 +43,7 @@ struct Place<'r, R: Processes> {
     number: usize,
 }
 
-impl<'r, R: Processes + Files + Wait> RealChild<'r, R> {
+impl<'r, R: Processes + Files> RealChild<'r, R> {
     /// The child over this process, whose file of ids is removed when it was waited for. It is put among the programs, where
     /// there are any and they have room: whoever stops one of these stops all.
     pub fn new(
@@ -54,7 +53,7 @@ impl<'r, R: Processes + Files + Wait> RealChild<'r, R> {
         ids: Option<WrittenIds>,
     ) -> Self {
         let output = process.stdout.take();
-        let (among, process) = placed(rt, programs, process);
+        let (among, process) = placed(programs, process);
         RealChild {
             running: Running {
                 rt,
@@ -74,21 +73,20 @@ impl<'r, R: Processes + Files + Wait> RealChild<'r, R> {
 }
 
 // Puts the process among the programs, or gives it back.
-fn placed<'r, R: Processes + Wait>(
-    rt: &'r R,
+fn placed<'r, R: Processes>(
     programs: Option<&'r Programs<R::Started>>,
     process: process::Child<R::Started>,
 ) -> (Option<Place<'r, R>>, Option<process::Child<R::Started>>) {
     let Some(programs) = programs else {
         return (None, Some(process));
     };
-    match programs.put(rt, process) {
+    match programs.put(process) {
         Ok(number) => (Some(Place { programs, number }), None),
         Err(process) => (None, Some(process)),
     }
 }
 
-impl<R: Processes + Files + Wait> Running<'_, R> {
+impl<R: Processes + Files> Running<'_, R> {
     fn read(&mut self, buf: &mut [u8]) -> io::Result<usize>
         ensures { ReadsAtMost result buf.new }
     {
@@ -102,7 +100,7 @@ impl<R: Processes + Files + Wait> Running<'_, R> {
     // wait fails, since then the system has lost the child.
     fn wait(&mut self) -> io::Result<i32> {
         if let Some(place) = self.among.take() {
-            self.process = place.programs.take(self.rt, place.number);
+            self.process = place.programs.take(place.number);
         }
         let outcome = match &mut self.process {
             Some(process) => process.wait(),
@@ -116,7 +114,7 @@ impl<R: Processes + Files + Wait> Running<'_, R> {
 
     fn stop(&mut self) {
         if let Some(place) = &self.among {
-            place.programs.stop(self.rt);
+            place.programs.stop();
         }
         if let Some(process) = &mut self.process {
             let _ = process.kill();
@@ -125,7 +123,7 @@ impl<R: Processes + Files + Wait> Running<'_, R> {
     }
 }
 
-impl<R: Processes + Files + Wait> Child for RealChild<'_, R> {
+impl<R: Processes + Files> Child for RealChild<'_, R> {
     ghost seen = { λ s. record { told = None; faults = s.faults.count } };
 
     ghost are_bytes = { λ _. tt };

@@ -11,7 +11,6 @@ use std::alloc::Global;
 use std::fs::{File, Files};
 use std::io::ErrorKind;
 use std::process::{Command, OpenProcess, Processes, Stdio};
-use std::sync::Wait;
 use std::{io, process};
 
 /// Where a program that is started writes its errors.
@@ -75,7 +74,7 @@ impl<'r, R: Processes> RealSpawner<'r, R> {
 
 impl<'r, R> Spawner for RealSpawner<'r, R>
 where
-    R: Processes + Files<File = File> + Wait + Sync,
+    R: Processes + Files<File = File> + Sync,
     R::Started: Send,
     <R::Started as OpenProcess>::Stdin: Send,
     <R::Started as OpenProcess>::Stdout: Send,
@@ -97,7 +96,7 @@ where
     }
 }
 
-fn started<'r, R: Processes + Files<File = File> + Wait>(
+fn started<'r, R: Processes + Files<File = File>>(
     alloc: Global,
     rt: &'r R,
     errors: Errors,

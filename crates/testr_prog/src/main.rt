@@ -243,7 +243,7 @@ fn run_program<R: Threads + Wait + Sync>(
     let Ok(programs) = Programs::new(alloc, MOST_WORKERS) else {
         return out_of_memory(err);
     };
-    let mut shelf = shelf_of(alloc, rt, words).stopping(rt, &programs);
+    let mut shelf = shelf_of(alloc, rt, words).stopping(&programs);
     let mut input = StreamSource::new(rt.stdin(), "standard input");
     let mut spawner = spawner_of(alloc, rt, errors, words).among(&programs);
     let mut site = RealSite::new(alloc, rt, working_folder(alloc, rt));
