@@ -9,9 +9,7 @@ use Rattle.std.proofs.Math.Seq.{take-add}
 use Rattle.std.proofs.lemmas.List.{take_all, take-append-drop, length-take, length-drop}
 use Rattle.edge_io.specs.Disk.{Folder}
 use Rattle.edge_io.specs.Steps.{HasFile, ReadsPart, IsPart}
-use Rattle.outcome_fold.specs.Answers.{failing_of}
 use Rattle.outcome_fold.specs.Order.{text_table, in_byte_order}
-use Rattle.outcome_fold.specs.Rows.{rows_of}
 use Rattle.run_ledger.proofs.TimedLemmas.{keys_sorted}
 use Rattle.old_folder.specs.Olds.{failing_name}
 use Rattle.old_runs.specs.Fed.{HasHeardFile}

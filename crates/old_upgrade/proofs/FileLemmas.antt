@@ -1,6 +1,5 @@
 -- A file that is recorded piece by piece.
-use Rattle.std.proofs.Common.{◌≡◌, ℕ, ◌+◌, ◌<◌, ◌≤◌, List, [], ◌∷◌, ◌++◌, take, drop, length, Option, Some, None, IfSome, IsSome, IsSomeAnd, refl, sym, ap, ◌∙◌, subst, arith, append-nil}
-use Rattle.std.specs.List.{flat_map}
+use Rattle.std.proofs.Common.{◌≡◌, ℕ, ◌+◌, ◌<◌, ◌≤◌, List, [], ◌++◌, take, drop, length, Option, Some, None, IfSome, IsSome, refl, sym, ap, ◌∙◌, subst, arith, append-nil}
 use Rattle.std.specs.Option.{option_map}
 use Rattle.std.proofs.Math.Seq.{take-add}
 use Rattle.std.proofs.lemmas.List.{take_all, take-append-drop, length-take, length-drop}
@@ -8,7 +7,7 @@ use Rattle.std.proofs.lemmas.List.Elements.{All-nil, All-append}
 use Rattle.std.proofs.lemmas.List.Concat.{flat_map-append}
 use Rattle.edge_io.specs.Disk.{Disk, Draft, Folder}
 use Rattle.edge_io.specs.Steps.{Goes, Stays, Grown, grown, HasFile, ReadsPart, IsPart}
-use Rattle.edge_io.proofs.Going.{goes_then, goes_weaker, goes_from}
+use Rattle.edge_io.proofs.Going.{goes_then}
 use Rattle.packet_codec.specs.Canonical.{IsEvent, Fits, canonical}
 use Rattle.packet_codec.specs.Packets.{ArePacketsOf}
 use Rattle.packet_codec.specs.declared.event.Event.{Event}

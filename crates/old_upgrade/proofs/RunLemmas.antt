@@ -13,14 +13,13 @@ use Rattle.run_shelf.specs.declared.faults.ShelfCall.{ShelfCall}
 use Rattle.run_shelf.specs.declared.faults.ShelfCall.TheVariants as call
 use Rattle.run_shelf.specs.Adoption.{SameButNew, PassesNew}
 use Rattle.run_shelf.specs.Drafts.{OfDraft, Writes, PlaceFails, SameButDraft}
-use Rattle.run_shelf.specs.Images.{AtRest, KeepsFile, ReadsFile, SameDisk}
+use Rattle.run_shelf.specs.Images.{AtRest, KeepsFile, ReadsFile}
 use Rattle.run_shelf.specs.Repository.{full_name, partial_name, most_runs}
 use Rattle.run_shelf.proofs.DraftLemmas.{writes_grown, after_writing, grown_then}
 use Rattle.run_shelf.proofs.Joining.{rest_images}
 use Rattle.run_shelf.proofs.OldLemmas.{run_put, new_itself, new_then, full_still}
 use Rattle.run_shelf.proofs.RunLemmas.{last_item, other_item, within_items}
 use Rattle.old_folder.specs.Converting.{HasConverted, Converts, StaysOld}
-use Rattle.old_folder.specs.Olds.{IsOldWith}
 use Rattle.old_folder.proofs.OldLemmas.{none_converted, one_more, stays}
 use Rattle.old_runs.specs.Fed.{HasFed}
 use Rattle.old_runs.specs.Files.{IsOldFile, IsDamaged}
@@ -30,7 +29,7 @@ use Rattle.old_upgrade.specs.declared.faults.UpgradeFault.{UpgradeFault}
 use Rattle.old_upgrade.specs.declared.faults.UpgradeFault.TheVariants.{NoStore, NotOld, UnknownFormat, BadCount, BadRun, BadFailing, Shelf, NoMemory}
 use Rattle.old_upgrade.specs.Recording.{HasRecordedAll, RecordsRun, RecordFails, IsDamagedRun, ConvertsRun, ConvertFails, HasConvertedTo, IsFoundOld, AllFail}
 use Rattle.old_upgrade.specs.Upgrading.{IsConversion, IsConvertedFrom, AreConverted, HasBadRun}
-use Rattle.old_upgrade.proofs.FileLemmas.{packets_both, grown_disk, grown_nothing}
+use Rattle.old_upgrade.proofs.FileLemmas.{packets_both, grown_nothing}
 
 -- ---- a file that was recorded whole
 

@@ -2,8 +2,7 @@
 use Rattle.std.proofs.Common.{◌≡◌, ℕ, ◌<◌, ◌≤◌, true, List, length, sym, ◌∙◌, arith}
 use Rattle.edge_io.specs.Disk.{Files}
 use Rattle.run_shelf.specs.Adoption.{SameButNew}
-use Rattle.run_shelf.specs.Bases.{base_name}
-use Rattle.run_shelf.specs.Repository.{partial_name, format_name, most_runs}
+use Rattle.run_shelf.specs.Repository.{partial_name, most_runs}
 use Rattle.run_shelf.specs.Sides.{cache_file_name}
 use Rattle.run_shelf.specs.declared.cache_file.CacheFile.{CacheFile}
 use Rattle.run_shelf.specs.declared.cache_file.CacheFile.TheVariants.{Failing, Times}

@@ -1,13 +1,12 @@
 -- The whole of an upgrade.
-use Rattle.std.proofs.Common.{◌≡◌, ◌⊎◌, inl, inr, ℕ, ◌+◌, ◌<◌, ◌≤◌, List, [], length, Option, Some, None, IfSome, IsSome, IsSomeAnd, Err, refl, sym, ap, ◌∙◌, subst, arith}
+use Rattle.std.proofs.Common.{◌≡◌, ◌⊎◌, inl, inr, ℕ, ◌<◌, List, length, Option, Some, None, IfSome, IsSomeAnd, Err, refl, sym, ap, ◌∙◌, subst, arith}
 use Rattle.edge_io.specs.Disk.{Files, put, Disk, Folder, IsImage, at_rest}
-use Rattle.edge_io.specs.Moments.{Passes}
 use Rattle.edge_io.specs.Steps.{Goes, Stays, Settled}
 use Rattle.edge_io.proofs.Going.{goes_then, goes_from, goes_weaker}
-use Rattle.edge_io.proofs.Passing.{passes_same, passes_then, passes_weaker}
+use Rattle.edge_io.proofs.Passing.{passes_then, passes_weaker}
 use Rattle.run_shelf.specs.declared.faults.ShelfCall.{ShelfCall}
 use Rattle.run_shelf.specs.declared.faults.ShelfCall.TheVariants as call
-use Rattle.run_shelf.specs.Adoption.{IsConverted as StandConverted, IsReadyToAdopt, SameButNew, PassesNew, PassesAdoption, Adopts, AdoptFails, IsAdopted, IsBeingAdopted}
+use Rattle.run_shelf.specs.Adoption.{IsConverted as StandConverted, IsReadyToAdopt, SameButNew, PassesNew, PassesAdoption, Adopts, HasBaseOrNot, AdoptFails, IsAdopted, IsBeingAdopted}
 use Rattle.run_shelf.specs.Bases.{Base, base_name, base_in}
 use Rattle.run_shelf.specs.Images.{AtRest, PassesOld}
 use Rattle.run_shelf.specs.Outcomes.{FailsAt}
@@ -15,7 +14,7 @@ use Rattle.run_shelf.specs.Repository.{full_name, format_name, based_format_byte
 use Rattle.run_shelf.proofs.Joining.{rest_images, published_after, rests_after, passes_after}
 use Rattle.run_shelf.proofs.OldLemmas.{base_put, new_then}
 use Rattle.run_shelf.proofs.ReadingLemmas.{same_state}
-use Rattle.old_folder.specs.Converting.{HasConverted, Converts, StaysOld, IsUpgraded}
+use Rattle.old_folder.specs.Converting.{StaysOld}
 use Rattle.old_folder.specs.Looking.{SurveysOld, OldSurveyFails, old_failed}
 use Rattle.old_folder.specs.Olds.{failing_name, IsOldWith}
 use Rattle.old_folder.specs.declared.faults.OldFault.{OldFault}
@@ -24,11 +23,22 @@ use Rattle.old_folder.proofs.OldLemmas.{all_converted, upgraded, stays, failing_
 use Rattle.old_runs.specs.Files.{IsDamaged}
 use Rattle.old_upgrade.specs.declared.faults.UpgradeFault.{UpgradeFault}
 use Rattle.old_upgrade.specs.declared.faults.UpgradeFault.TheVariants.{NoStore, NotOld, UnknownFormat, BadCount, BadRun, BadFailing, Shelf, NoMemory}
-use Rattle.old_upgrade.specs.Recording.{HasConvertedTo, IsFoundOld, AllFail, FailedLast, FailingFails, FoundFails, fault_of_look}
-use Rattle.old_upgrade.specs.Upgrading.{upgrade_failed, IsConvertedFrom, AreFailing, BecomesRepository, BecomesOne, Upgrades, IsEither, PassesUpgrade, HasBadRun, HasBadFailing, UpgradeFails}
+use Rattle.old_upgrade.specs.Recording.{HasConvertedTo, IsFoundOld, AllFail, FailedLast, FailingFails, FoundFailsAt, FoundFails, fault_of_look}
+use Rattle.old_upgrade.specs.Upgrading.{upgrade_failed, AreFailing, BecomesRepository, BecomesOne, Upgrades, IsEither, PassesUpgrade, HasBadRun, HasBadFailing, StaysOrNot, KeepsOrUpgrades, UpgradeFailsAt, UpgradeFails}
 use Rattle.old_upgrade.proofs.RunLemmas.{whole_run}
 
 -- ---- behind the look
+
+-- still a folder of the original tool, at whichever call
+stays_at : (which : ShelfCall) (s t : Folder) → StaysOld s.disk.published t.disk.published → FoundFailsAt which s t
+stays_at call.Names s t stay = stay
+stays_at call.Length s t stay = stay
+stays_at call.ReadAt s t stay = stay
+stays_at call.StartDraft s t stay = stay
+stays_at call.Append s t stay = stay
+stays_at call.SyncDraft s t stay = stay
+stays_at call.Publish s t stay = inl stay
+stays_at call.SyncFolder s t stay = inl stay
 
 module _ (count : ℕ) (s : Folder) (found : IsFoundOld count s) where
   new_stays : (image : Files) → SameButNew count s.disk.published image → StaysOld s.disk.published image
@@ -75,7 +85,7 @@ module _ (count : ℕ) (s : Folder) (found : IsFoundOld count s) where
       record { count = count; old = found.old; runs = no_run_damaged; damaged = subst (λ (o : Option (List ℕ)). IsSomeAnd o IsDamaged) failing_same fails },
       still_stays,
     )
-    failing_fails (Shelf which) fails = inl still_stays
+    failing_fails (Shelf which) fails = stays_at which s m still_stays
     failing_fails NoMemory fails = still_stays
 
     -- and the base is told
@@ -119,9 +129,23 @@ module _ (count : ℕ) (s : Folder) (found : IsFoundOld count s) where
               is = becomes t.disk.published (step.lasts t.disk.published (inl (ap (λ (d : Disk). d.published) rest ∙ sym (ap (λ (d : Disk). d.stable) rest))));
             }
 
-        pub adopt_fails : AdoptFails bytes m t → IsEither s.disk.published t.disk.published
-        adopt_fails (inl same) = inl (subst (λ (f : Files). StaysOld s.disk.published f) (sym same) still_stays)
-        adopt_fails (inr way) = on_the_way t.disk.published way
+        same_stays : t.disk.published ≡ m.disk.published → StaysOld s.disk.published t.disk.published
+        same_stays same = subst (λ (f : Files). StaysOld s.disk.published f) (sym same) still_stays
+
+        base_or_not : HasBaseOrNot bytes m t → StaysOld s.disk.published t.disk.published
+        base_or_not (inl same) = same_stays same
+        base_or_not (inr is) = base_stays t.disk.published is
+
+        pub adopt_fails : (which : ShelfCall) → AdoptFails bytes which m t → FoundFailsAt which s t
+        adopt_fails call.Names fails = absurd fails
+        adopt_fails call.Length fails = absurd fails
+        adopt_fails call.ReadAt fails = absurd fails
+        adopt_fails call.StartDraft fails = base_or_not fails
+        adopt_fails call.Append fails = base_or_not fails
+        adopt_fails call.SyncDraft fails = base_or_not fails
+        adopt_fails call.Publish (inl same) = inl (same_stays same)
+        adopt_fails call.Publish (inr way) = on_the_way t.disk.published way
+        adopt_fails call.SyncFolder fails = on_the_way t.disk.published fails
 
         pub adopt_passes : PassesAdoption bytes m t → PassesUpgrade s t
         adopt_passes passes =
@@ -137,7 +161,7 @@ all_found_fails UnknownFormat s t fails = absurd fails
 all_found_fails BadCount s t fails = absurd fails
 all_found_fails (BadRun number) s t fails = fails
 all_found_fails BadFailing s t fails = absurd fails
-all_found_fails (Shelf which) s t fails = inl fails
+all_found_fails (Shelf which) s t fails = stays_at which s t fails
 all_found_fails NoMemory s t fails = fails
 
 -- where the folder is told or not
@@ -195,8 +219,8 @@ module _ (count : ℕ) (a : Option Folder) (found : IfSome a (IsFoundOld count))
       pub goes_upgrades : Goes b c (Adopts bytes) → Goes a c (Upgrades count)
       goes_upgrades step = goes_then a b c Known_too (Adopts bytes) (Upgrades count) known_too step (λ s m t p q. adopts count s p.0.0 m p.0.1 bytes ids tells p.1 t q)
 
-      pub goes_adopt_fails : (which : ShelfCall) → Goes b c (AdoptFails bytes) → Goes a c (FoundFails (Shelf which))
-      goes_adopt_fails which step = goes_then a b c Known_too (AdoptFails bytes) (FoundFails (Shelf which)) known_too step (λ s m t p q. adopt_fails count s p.0.0 m p.0.1 bytes ids tells p.1 t q)
+      pub goes_adopt_fails : (which : ShelfCall) → Goes b c (AdoptFails bytes which) → Goes a c (FoundFails (Shelf which))
+      goes_adopt_fails which step = goes_then a b c Known_too (AdoptFails bytes which) (FoundFails (Shelf which)) known_too step (λ s m t p q. adopt_fails count s p.0.0 m p.0.1 bytes ids tells p.1 t which q)
 
       pub goes_adopt_passes : Goes b c (PassesAdoption bytes) → Goes a c PassesUpgrade
       goes_adopt_passes step = goes_then a b c Known_too (PassesAdoption bytes) PassesUpgrade known_too step (λ s m t p q. adopt_passes count s p.0.0 m p.0.1 bytes ids tells p.1 t q)
@@ -206,11 +230,11 @@ module _ (count : ℕ) (a : Option Folder) (found : IfSome a (IsFoundOld count))
 settled_published : (s t : Folder) → Settled s t → t.disk.published ≡ s.disk.published
 settled_published s t is = ap (λ (f : Folder). f.disk.published) is
 
-look_shelf : (which : ShelfCall) (s t : Folder) → FailsAt which s t → t.disk.published ≡ s.disk.published
-look_shelf call.SyncFolder s t fails = ap (λ (f : Folder). f.disk.published) fails
-look_shelf call.Names s t fails = settled_published s t fails
-look_shelf call.Length s t fails = settled_published s t fails
-look_shelf call.ReadAt s t fails = settled_published s t fails
+look_shelf : (which : ShelfCall) (s t : Folder) → FailsAt which s t → UpgradeFailsAt which s t
+look_shelf call.SyncFolder s t fails = inl (inl (ap (λ (f : Folder). f.disk.published) fails))
+look_shelf call.Names s t fails = inl (settled_published s t fails)
+look_shelf call.Length s t fails = inl (settled_published s t fails)
+look_shelf call.ReadAt s t fails = inl (settled_published s t fails)
 look_shelf call.StartDraft s t fails = absurd fails
 look_shelf call.Append s t fails = absurd fails
 look_shelf call.SyncDraft s t fails = absurd fails
@@ -221,7 +245,7 @@ look_fails old.NoStore s t fails = fails
 look_fails old.NotOld s t fails = fails
 look_fails old.UnknownFormat s t fails = fails
 look_fails old.BadCount s t fails = fails
-look_fails (old.Shelf which) s t fails = inl (inl (look_shelf which s t fails))
+look_fails (old.Shelf which) s t fails = look_shelf which s t fails
 look_fails old.NoMemory s t fails = inl (settled_published s t fails)
 
 pub old_passes : (s t : Folder) → PassesOld s t → PassesUpgrade s t
@@ -238,6 +262,23 @@ module _ (count : ℕ) (s m : Folder) (counts : IsImage s.disk s.disk.published)
     pub upgrades_then : Upgrades count m t → Upgrades count s t
     upgrades_then step = record { rest = step.rest; is = subst (λ (f : Files). BecomesRepository count f t.disk.published) same_files step.is }
 
+    still : StaysOld m.disk.published t.disk.published → StaysOrNot s t
+    still stay = inr (subst (λ (f : Files). StaysOld f t.disk.published) same_files stay)
+
+    either : IsEither m.disk.published t.disk.published → KeepsOrUpgrades s t
+    either (inl stay) = inl (still stay)
+    either (inr becomes) = inr (subst (λ (f : Files). BecomesOne f t.disk.published) same_files becomes)
+
+    fails_at : (which : ShelfCall) → FoundFailsAt which m t → UpgradeFailsAt which s t
+    fails_at call.Names fails = still fails
+    fails_at call.Length fails = still fails
+    fails_at call.ReadAt fails = still fails
+    fails_at call.StartDraft fails = still fails
+    fails_at call.Append fails = still fails
+    fails_at call.SyncDraft fails = still fails
+    fails_at call.Publish fails = either fails
+    fails_at call.SyncFolder fails = either fails
+
     pub fails_then : (fault : UpgradeFault) → FoundFails fault m t → UpgradeFails fault s t
     fails_then NoStore fails = absurd fails
     fails_then NotOld fails = absurd fails
@@ -245,12 +286,8 @@ module _ (count : ℕ) (s m : Folder) (counts : IsImage s.disk s.disk.published)
     fails_then BadCount fails = absurd fails
     fails_then (BadRun number) fails = subst (λ (f : Files). HasBadRun number f × StaysOld f t.disk.published) same_files fails
     fails_then BadFailing fails = subst (λ (f : Files). HasBadFailing f × StaysOld f t.disk.published) same_files fails
-    fails_then (Shelf which) fails = either (subst (λ (f : Files). IsEither f t.disk.published) same_files fails)
-      where
-        either : IsEither s.disk.published t.disk.published → UpgradeFails (Shelf which) s t
-        either (inl stay) = inl (inr stay)
-        either (inr becomes) = inr becomes
-    fails_then NoMemory fails = inr (subst (λ (f : Files). StaysOld f t.disk.published) same_files fails)
+    fails_then (Shelf which) fails = fails_at which fails
+    fails_then NoMemory fails = still fails
 
     pub passes_all_then : PassesUpgrade m t → PassesUpgrade s t
     passes_all_then passes = passes_after s m counts surveys.settled IsEither t passes

@@ -1,6 +1,6 @@
 -- The steps of an upgrade: a file that is read piece by piece and recorded, and one run that is converted.
-use Rattle.std.specs.Prelude.{◌≡◌, ◌⊎◌, ⊤, ℕ, ◌+◌, ◌<◌, ◌≤◌, Option, Some, IsSomeAnd, List, [], ◌++◌, length, take, drop}
-use Rattle.edge_io.specs.Disk.{Files, Folder}
+use Rattle.std.specs.Prelude.{◌≡◌, ⊤, ℕ, ◌+◌, ◌≤◌, Some, IsSomeAnd, List, ◌++◌, length, take, drop}
+use Rattle.edge_io.specs.Disk.{Folder}
 use Rattle.edge_io.specs.Steps.{Grown}
 use Rattle.packet_codec.specs.Packets.{ArePacketsOf}
 use Rattle.packet_codec.specs.declared.event.Event.{Event}
@@ -8,6 +8,8 @@ use Rattle.run_shelf.specs.Adoption.{SameButNew}
 use Rattle.run_shelf.specs.Drafts.{SameButDraft}
 use Rattle.run_shelf.specs.Images.{AtRest, KeepsFile}
 use Rattle.run_shelf.specs.Repository.{full_name, partial_name}
+use Rattle.run_shelf.specs.declared.faults.ShelfCall.{ShelfCall}
+use Rattle.run_shelf.specs.declared.faults.ShelfCall.TheVariants.{Names, Length, ReadAt, StartDraft, Append, SyncDraft, Publish, SyncFolder}
 use Rattle.old_folder.specs.Converting.{Converts, StaysOld}
 use Rattle.old_folder.specs.declared.faults.OldFault.{OldFault}
 use Rattle.old_folder.specs.declared.faults.OldFault.TheVariants as old
@@ -173,6 +175,17 @@ pub record HearsPiece (place room count : ℕ) (old new : OldFailing) (s : Folde
 
 -- ---- behind the look
 
+-- This call of the folder that was found failed. Only where a publish did, or the barrier behind it, may it be the repository.
+abbrev pub FoundFailsAt : ShelfCall → Folder → Folder → Type 0
+FoundFailsAt Names s t = StaysOld s.disk.published t.disk.published
+FoundFailsAt Length s t = StaysOld s.disk.published t.disk.published
+FoundFailsAt ReadAt s t = StaysOld s.disk.published t.disk.published
+FoundFailsAt StartDraft s t = StaysOld s.disk.published t.disk.published
+FoundFailsAt Append s t = StaysOld s.disk.published t.disk.published
+FoundFailsAt SyncDraft s t = StaysOld s.disk.published t.disk.published
+FoundFailsAt Publish s t = IsEither s.disk.published t.disk.published
+FoundFailsAt SyncFolder s t = IsEither s.disk.published t.disk.published
+
 -- why the folder that was found was not upgraded, and what it is then
 abbrev pub FoundFails : UpgradeFault → Folder → Folder → Type 0
 FoundFails NoStore s t = ⊥
@@ -181,7 +194,7 @@ FoundFails UnknownFormat s t = ⊥
 FoundFails BadCount s t = ⊥
 FoundFails (BadRun number) s t = HasBadRun number s.disk.published × StaysOld s.disk.published t.disk.published
 FoundFails BadFailing s t = HasBadFailing s.disk.published × StaysOld s.disk.published t.disk.published
-FoundFails (Shelf call) s t = IsEither s.disk.published t.disk.published
+FoundFails (Shelf call) s t = FoundFailsAt call s t
 FoundFails NoMemory s t = StaysOld s.disk.published t.disk.published
 
 -- a fault of the look, as one of the upgrade

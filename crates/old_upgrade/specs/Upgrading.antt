@@ -1,15 +1,15 @@
 -- What an upgrade makes of a folder of the original tool, and why it refuses (docs/FORMATS.md, "Folders of another program").
-use Rattle.std.specs.Prelude.{◌≡◌, ◌⊎◌, ⊤, ℕ, ◌+◌, ◌<◌, Bool, true, false, Option, Some, None, IsSomeAnd, List, [], length, slice_get, Result, Ok, Err}
-use Rattle.edge_io.specs.Disk.{Files, Folder, IsImage, at_rest, put}
-use Rattle.edge_io.specs.Moments.{LeavesOnly, Passes}
+use Rattle.std.specs.Prelude.{◌≡◌, ◌⊎◌, ℕ, ◌<◌, Bool, true, false, Option, Some, None, IsSomeAnd, List, [], length, slice_get, Result, Ok, Err}
+use Rattle.edge_io.specs.Disk.{Files, Folder, IsImage}
+use Rattle.edge_io.specs.Moments.{Passes}
 use Rattle.edge_io.specs.Steps.{Settled}
 use Rattle.packet_codec.specs.Packets.{ArePacketsOf}
 use Rattle.packet_codec.specs.declared.event.Event.{Event}
 use Rattle.run_shelf.specs.Images.{AtRest}
-use Rattle.run_shelf.specs.Outcomes.{FailsAt}
 use Rattle.run_shelf.specs.Repository.{full_name, format_name, HasFormat}
 use Rattle.run_shelf.specs.Sides.{cache_file_name}
 use Rattle.run_shelf.specs.declared.faults.ShelfCall.{ShelfCall}
+use Rattle.run_shelf.specs.declared.faults.ShelfCall.TheVariants.{Names, Length, ReadAt, StartDraft, Append, SyncDraft, Publish, SyncFolder}
 use Rattle.run_shelf.specs.declared.cache_file.CacheFile.TheVariants as side
 use Rattle.old_folder.specs.Converting.{StaysOld, IsUpgraded}
 use Rattle.old_folder.specs.Looking.{HasStrangeFormat, LacksCount}
@@ -94,6 +94,17 @@ StaysOrNot s t = (t.disk.published ≡ s.disk.published) ⊎ StaysOld s.disk.pub
 abbrev pub KeepsOrUpgrades : Folder → Folder → Type 0
 KeepsOrUpgrades s t = StaysOrNot s t ⊎ BecomesOne s.disk.published t.disk.published
 
+-- This call of the folder failed. Only where a publish did, or the barrier behind it, may the folder be the repository.
+abbrev pub UpgradeFailsAt : ShelfCall → Folder → Folder → Type 0
+UpgradeFailsAt Names s t = StaysOrNot s t
+UpgradeFailsAt Length s t = StaysOrNot s t
+UpgradeFailsAt ReadAt s t = StaysOrNot s t
+UpgradeFailsAt StartDraft s t = StaysOrNot s t
+UpgradeFailsAt Append s t = StaysOrNot s t
+UpgradeFailsAt SyncDraft s t = StaysOrNot s t
+UpgradeFailsAt Publish s t = KeepsOrUpgrades s t
+UpgradeFailsAt SyncFolder s t = KeepsOrUpgrades s t
+
 -- why the folder was not upgraded, and what it is then
 abbrev pub UpgradeFails : UpgradeFault → Folder → Folder → Type 0
 UpgradeFails NoStore s t = (s.disk.published format_name ≡ None) × Settled s t
@@ -102,7 +113,7 @@ UpgradeFails UnknownFormat s t = HasStrangeFormat s.disk.published × Settled s 
 UpgradeFails BadCount s t = LacksCount s.disk.published × Settled s t
 UpgradeFails (BadRun number) s t = HasBadRun number s.disk.published × StaysOld s.disk.published t.disk.published
 UpgradeFails BadFailing s t = HasBadFailing s.disk.published × StaysOld s.disk.published t.disk.published
-UpgradeFails (Shelf call) s t = KeepsOrUpgrades s t
+UpgradeFails (Shelf call) s t = UpgradeFailsAt call s t
 UpgradeFails NoMemory s t = StaysOrNot s t
 
 -- a call of the folder failed

@@ -25,7 +25,8 @@ use Rattle.command_steps.specs.Refreshing.{Refreshes}
 use Rattle.command_steps.specs.Reporting.{Prints}
 use Rattle.testr_commands.specs.Init.{Inits}
 use Rattle.testr_commands.specs.Load.{Loads}
-use Rattle.testr_commands.specs.Answer.{may_have_placed, may_have_kept}
+use Rattle.testr_commands.specs.Answer.{may_have_kept}
+use Rattle.testr_commands.specs.Placed.{may_have_placed}
 use Rattle.command_steps.specs.declared.answer.Verdict.{Verdict}
 use Rattle.command_steps.specs.declared.answer.Refusal.{Refusal}
 use Rattle.command_steps.specs.declared.answer.Refusal.TheVariants.{Keep, Refresh, Print}

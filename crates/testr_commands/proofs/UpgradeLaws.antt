@@ -13,12 +13,14 @@ use Rattle.edge_io.proofs.Passing.{passes_weaker}
 use Rattle.run_ledger.specs.Caches.{IsSound}
 use Rattle.run_ledger.proofs.SoundLemmas.{sound_without}
 use Rattle.run_shelf.specs.Adoption.{IsOld, old_format_bytes}
+use Rattle.run_shelf.specs.declared.faults.ShelfCall.{ShelfCall}
+use Rattle.run_shelf.specs.declared.faults.ShelfCall.TheVariants as call
 use Rattle.run_shelf.specs.Repository.{format_name, format_bytes, based_format_bytes, full_name, HasFormat, IsRepository}
 use Rattle.old_folder.specs.Converting.{StaysOld}
 use Rattle.old_folder.specs.Looking.{HasStrangeFormat, LacksCount}
 use Rattle.old_folder.specs.Olds.{failing_name, IsOldWith}
 use Rattle.old_runs.specs.Files.{IsDamaged}
-use Rattle.old_upgrade.specs.Upgrading.{Upgrades, UpgradeFails, PassesUpgrade, IsEither, StaysOrNot, LacksCaches, BecomesOne, HasBadRun, HasBadFailing, upgrade_failed}
+use Rattle.old_upgrade.specs.Upgrading.{Upgrades, UpgradeFailsAt, UpgradeFails, PassesUpgrade, IsEither, StaysOrNot, KeepsOrUpgrades, LacksCaches, BecomesOne, HasBadRun, HasBadFailing, upgrade_failed}
 use Rattle.old_upgrade.proofs.SoundLemmas.{stays_sound, becomes_sound}
 use Rattle.old_upgrade.specs.declared.faults.UpgradeFault.{UpgradeFault}
 use Rattle.old_upgrade.specs.declared.faults.UpgradeFault.TheVariants.{NoStore, NotOld, UnknownFormat, BadCount, BadRun, BadFailing, Shelf, NoMemory}
@@ -34,6 +36,7 @@ use Rattle.command_steps.specs.declared.answer.Verdict.TheVariants.{Passed}
 use Rattle.command_steps.specs.declared.answer.Refusal.{Refusal}
 use Rattle.command_steps.specs.declared.answer.Refusal.TheVariants as refusal
 use Rattle.command_steps.specs.declared.run_report.PrintFault.{PrintFault}
+use Rattle.testr_commands.specs.Placed.{may_have_placed}
 use Rattle.testr_commands.specs.Upgrade.{UpgradesAll, DidUpgrade, IsWholeOld, PrintsOfUpgrade, KeepsWithoutCaches, upgrade_may_have_kept}
 use Rattle.testr_commands.proofs.ChainLemmas.{IsRefused, KeepsCounts, RefusesAs, then_counts, then_refuses, gives_refuses}
 use Rattle.testr_commands.proofs.CommandLaws.{of_shown}
@@ -48,7 +51,7 @@ upgrade_place UnknownFormat = refl
 upgrade_place BadCount = refl
 upgrade_place (BadRun number) = refl
 upgrade_place BadFailing = refl
-upgrade_place (Shelf call) = refl
+upgrade_place (Shelf which) = refl
 upgrade_place NoMemory = refl
 
 step_counts : (a b : Work) (count : ℕ) → UpgradesFolder a.folder b.folder (Ok count) → b ≡ work_folder.put a b.folder → SameCounts a b
@@ -143,15 +146,39 @@ stays_repository : (s t : Folder) → StaysOrNot s t → KeepsRepository s t
 stays_repository s t (inl same) = same_repository s t same
 stays_repository s t (inr stays) = old_repository s t stays.was.old
 
-fails_stay : (fault : UpgradeFault) (s t : Folder) → (upgrade_failed {T = ℕ} (Err fault) ≡ false) → UpgradeFails fault s t → StaysOrNot s t
+unplaced_stays : (which : ShelfCall) (s t : Folder) → may_have_placed which ≡ false → UpgradeFailsAt which s t → StaysOrNot s t
+unplaced_stays call.Names s t not fails = fails
+unplaced_stays call.Length s t not fails = fails
+unplaced_stays call.ReadAt s t not fails = fails
+unplaced_stays call.StartDraft s t not fails = fails
+unplaced_stays call.Append s t not fails = fails
+unplaced_stays call.SyncDraft s t not fails = fails
+unplaced_stays call.Publish s t not fails = cc
+unplaced_stays call.SyncFolder s t not fails = cc
+
+fails_stay : (fault : UpgradeFault) (s t : Folder) → upgrade_may_have_kept (Err (refusal.Upgrade fault)) ≡ false → UpgradeFails fault s t → StaysOrNot s t
 fails_stay NoStore s t not fails = inl (settled s t fails.1)
 fails_stay NotOld s t not fails = inl (settled s t fails.1)
 fails_stay UnknownFormat s t not fails = inl (settled s t fails.1)
 fails_stay BadCount s t not fails = inl (settled s t fails.1)
 fails_stay (BadRun number) s t not fails = inr fails.1
 fails_stay BadFailing s t not fails = inr fails.1
-fails_stay (Shelf call) s t not fails = cc
+fails_stay (Shelf which) s t not fails = unplaced_stays which s t not fails
 fails_stay NoMemory s t not fails = fails
+
+either_repository : (s t : Folder) → KeepsOrUpgrades s t → KeepsRepository s t
+either_repository s t (inl stays) = stays_repository s t stays
+either_repository s t (inr becomes) = old_repository s t becomes.1.upgraded.was.old
+
+failed_repository : (which : ShelfCall) (s t : Folder) → UpgradeFailsAt which s t → KeepsRepository s t
+failed_repository call.Names s t fails = stays_repository s t fails
+failed_repository call.Length s t fails = stays_repository s t fails
+failed_repository call.ReadAt s t fails = stays_repository s t fails
+failed_repository call.StartDraft s t fails = stays_repository s t fails
+failed_repository call.Append s t fails = stays_repository s t fails
+failed_repository call.SyncDraft s t fails = stays_repository s t fails
+failed_repository call.Publish s t fails = either_repository s t fails
+failed_repository call.SyncFolder s t fails = either_repository s t fails
 
 fails_repository : (fault : UpgradeFault) (s t : Folder) → UpgradeFails fault s t → KeepsRepository s t
 fails_repository NoStore s t fails = same_repository s t (settled s t fails.1)
@@ -160,22 +187,11 @@ fails_repository UnknownFormat s t fails = same_repository s t (settled s t fail
 fails_repository BadCount s t fails = same_repository s t (settled s t fails.1)
 fails_repository (BadRun number) s t fails = old_repository s t fails.1.was.old
 fails_repository BadFailing s t fails = old_repository s t fails.1.was.old
-fails_repository (Shelf call) s t (inl stays) = stays_repository s t stays
-fails_repository (Shelf call) s t (inr becomes) = old_repository s t becomes.1.upgraded.was.old
+fails_repository (Shelf which) s t fails = failed_repository which s t fails
 fails_repository NoMemory s t fails = stays_repository s t fails
 
 kept_by : (outcome : Result Verdict Refusal) (r : Result Verdict Refusal) → outcome ≡ r → upgrade_may_have_kept outcome ≡ false → upgrade_may_have_kept r ≡ false
 kept_by outcome r is not = ap upgrade_may_have_kept (sym is) ∙ not
-
-no_shelf : (fault : UpgradeFault) → upgrade_may_have_kept (Err (refusal.Upgrade fault)) ≡ false → upgrade_failed {T = ℕ} (Err fault) ≡ false
-no_shelf NoStore not = refl
-no_shelf NotOld not = refl
-no_shelf UnknownFormat not = refl
-no_shelf BadCount not = refl
-no_shelf (BadRun number) not = refl
-no_shelf BadFailing not = refl
-no_shelf (Shelf call) not = cc
-no_shelf NoMemory not = refl
 
 module _ (a b : Shown) (outcome : Result Verdict Refusal) where
   moments_by : UpgradeEnds a b outcome → Goes a.folder.told b.folder.told PassesUpgrade
@@ -207,7 +223,7 @@ module _ (a b : Shown) (outcome : Result Verdict Refusal) where
 
   keeps_by : UpgradeEnds a b outcome → upgrade_may_have_kept outcome ≡ false → Goes a.folder.told b.folder.told StaysOrNot
   keeps_by (refused fault is step out) not =
-      let no : upgrade_failed {T = ℕ} (Err fault) ≡ false = no_shelf fault (kept_by outcome (Err (refusal.Upgrade fault)) is not) in
+      let no : upgrade_may_have_kept (Err (refusal.Upgrade fault)) ≡ false = kept_by outcome (Err (refusal.Upgrade fault)) is not in
       goes_weaker a.folder.told b.folder.told (UpgradeFails fault) StaysOrNot step.refused (λ s t fails. fails_stay fault s t no fails)
   keeps_by (unprinted count fault is step out) not = let no : upgrade_may_have_kept (Err (refusal.Print fault)) ≡ false = kept_by outcome (Err (refusal.Print fault)) is not in cc
   keeps_by (printed count is step out part) not = let no : upgrade_may_have_kept (Ok Passed) ≡ false = kept_by outcome (Ok Passed) is not in cc
@@ -269,7 +285,7 @@ module _ (a b : Work) where
       damaged_by (s.disk.published (full_name number)) fails.0.damaged
       (λ bytes there damaged. can.runs number bytes (count_less s.disk.published fails.0.count can.count number fails.0.old can.old fails.0.counted) there damaged)
   never_step BadFailing s t can fails three = damaged_by (s.disk.published failing_name) fails.0.damaged (λ bytes there damaged. can.failing bytes there damaged)
-  never_step (Shelf call) s t can fails three = absurd (omega (arith, three))
+  never_step (Shelf which) s t can fails three = absurd (omega (arith, three))
   never_step NoMemory s t can fails three = absurd (omega (arith, three))
 
   never_goes : (fault : UpgradeFault) (p q : Option Folder) → IsSomeAnd p (λ s. IsWholeOld s.disk.published) → Goes p q (UpgradeFails fault) → refusal_exit_status (refusal.Upgrade fault) ≡ 3 → ⊥

@@ -1,8 +1,7 @@
 -- Behind which outcomes a run may be shown that was not before, and which of them come of a program that was not read to its end.
 use Rattle.std.specs.Prelude.{⊤, Bool, true, false, Option, Some, Result, Ok, Err}
-use Rattle.run_shelf.specs.declared.faults.ShelfCall.{ShelfCall}
-use Rattle.run_shelf.specs.declared.faults.ShelfCall.TheVariants.{Publish, SyncFolder}
 use Rattle.testr_words.specs.Tasks.{Task, load, run, upgrade}
+use Rattle.testr_commands.specs.Placed.{may_have_placed}
 use Rattle.testr_commands.specs.Upgrade.{upgrade_may_have_kept}
 use Rattle.suite_causes.specs.declared.cause_search.SearchFault.TheVariants as search_fault
 use Rattle.suite_plan.specs.declared.count_command.CallRefusal.TheVariants as call
@@ -10,12 +9,6 @@ use Rattle.suite_plan.specs.declared.test_listing.ListingRefusal.TheVariants as 
 use Rattle.command_steps.specs.declared.answer.Verdict.{Verdict}
 use Rattle.command_steps.specs.declared.answer.Refusal.{Refusal}
 use Rattle.command_steps.specs.declared.answer.Refusal.TheVariants.{Keep, Refresh, Print, Call, Listing, Report, Suspects, Ran, Search}
-
--- whether the file that was to get its name may be there, by the call that failed
-abbrev pub may_have_placed : ShelfCall → Bool
-may_have_placed Publish = true
-may_have_placed SyncFolder = true
-may_have_placed call = false
 
 -- Whether a run may be shown that was not before, of a load: it was done; or a call failed that was to give its run the name,
 -- or that came behind; or there was no memory for the caches.

@@ -1,4 +1,5 @@
 pub mod Workers
+pub mod Placed
 pub mod Upgrade
 pub mod Answer
 pub mod Searches

@@ -19,6 +19,7 @@ use Rattle.command_steps.specs.declared.answer.Verdict.{Verdict}
 use Rattle.command_steps.specs.declared.answer.Verdict.TheVariants.{Passed}
 use Rattle.command_steps.specs.declared.answer.Refusal.{Refusal}
 use Rattle.command_steps.specs.declared.answer.Refusal.TheVariants.{Upgrade, Print}
+use Rattle.testr_commands.specs.Placed.{may_have_placed}
 
 -- `upgrade`, step by step: the folder is upgraded, and it is printed how many runs it has
 abbrev pub UpgradesAll : Step Shown Verdict Refusal
@@ -55,9 +56,10 @@ pub record PrintsOfUpgrade (before after : Work) : Type 0 where
 abbrev pub KeepsWithoutCaches : Folder → Folder → Type 0
 KeepsWithoutCaches s t = LeavesOnly LacksCaches s.disk → Passes IsSound s t
 
--- whether the folder may be a repository that was none before: it was upgraded, or a call of it failed, or it was not printed
+-- whether the folder may be a repository that was none before: it was upgraded; or a call failed that gives a file its name, or
+-- the barrier behind it; or it was not printed
 abbrev pub upgrade_may_have_kept : Result Verdict Refusal → Bool
 upgrade_may_have_kept (Ok verdict) = true
-upgrade_may_have_kept (Err (Upgrade (upgrade_fault.Shelf call))) = true
+upgrade_may_have_kept (Err (Upgrade (upgrade_fault.Shelf call))) = may_have_placed call
 upgrade_may_have_kept (Err (Print fault)) = true
 upgrade_may_have_kept outcome = false

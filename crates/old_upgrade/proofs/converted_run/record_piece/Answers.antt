@@ -1,4 +1,4 @@
-use Rattle.std.proofs.Common.{sym, arith}
+use Rattle.std.proofs.Common.{arith}
 use Rattle.old_upgrade.proofs.FileLemmas.{goes_piece}
 use Rattle.old_upgrade.proofs.converted_run.record_piece.Goals as goal
 

@@ -1,4 +1,4 @@
-use Rattle.std.proofs.Common.{◌≡◌, ◌∙◌, sym, subst, Option, Some, None, IfSome, List, ℕ}
+use Rattle.std.proofs.Common.{subst, Option, IfSome, List, ℕ}
 use Rattle.old_runs.specs.Files.{AreFailingIn}
 use Rattle.old_upgrade.proofs.FailingLemmas.{failed_last, failing_damaged, failing_ordered, some_not_none}
 use Rattle.old_upgrade.proofs.failing_set.hear_file.Goals as goal

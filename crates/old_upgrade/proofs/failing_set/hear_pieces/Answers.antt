@@ -1,5 +1,4 @@
 use Rattle.std.proofs.Common.{◌∙◌, refl, arith}
-use Rattle.edge_io.specs.Disk.{Folder}
 use Rattle.run_shelf.proofs.LookSteps.{stays_back, stays_then}
 use Rattle.old_upgrade.proofs.FailingLemmas.{some_more, some_all}
 use Rattle.old_upgrade.proofs.failing_set.hear_pieces.Goals as goal

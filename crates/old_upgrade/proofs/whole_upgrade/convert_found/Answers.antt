@@ -1,7 +1,7 @@
-use Rattle.std.proofs.Common.{◌≡◌, ◌∙◌, sym, ap, subst, Option, IfSome, List, ℕ}
+use Rattle.std.proofs.Common.{◌∙◌, ap, Option, IfSome}
 use Rattle.edge_io.specs.Disk.{Folder}
 use Rattle.edge_io.specs.Steps.{Goes}
-use Rattle.run_shelf.specs.Bases.{base_in, HoldsBase}
+use Rattle.run_shelf.specs.Bases.{base_in}
 use Rattle.old_upgrade.specs.Recording.{HasConvertedTo, FailingFails, FailedLast}
 use Rattle.old_upgrade.proofs.WholeLemmas.{goes_all_found_fails, goes_new_passes, goes_stays, goes_converted_passes, some_ready, goes_failing_fails, goes_upgrades, goes_adopt_fails, goes_adopt_passes, moved_on, ready_by}
 use Rattle.old_upgrade.proofs.whole_upgrade.convert_found.Goals as goal

@@ -1,4 +1,4 @@
-use Rattle.std.proofs.Common.{◌≡◌, ◌∙◌, sym, ap, subst, Bool, ℕ, Err}
+use Rattle.std.proofs.Common.{◌∙◌, sym, ap, subst, Bool, ℕ, Err}
 use Rattle.edge_io.specs.Causes.{RisesExactlyIf}
 use Rattle.edge_io.specs.Steps.{Goes}
 use Rattle.old_upgrade.specs.Upgrading.{UpgradeFails, upgrade_failed}
