@@ -9,11 +9,13 @@ use Rattle.edge_io.specs.Seen.{Seen}
 use Rattle.edge_io.specs.Steps.{Goes, Stays}
 use Rattle.edge_io.proofs.Going.{goes_weaker, goes_then}
 use Rattle.edge_io.proofs.Passing.{passes_same, passes_weaker}
-use Rattle.run_shelf.specs.Images.{AtRest, KeepsFile, PassesFile}
+use Rattle.run_shelf.specs.Images.{AtRest, SameDisk, KeepsFile, PassesFile}
+use Rattle.run_shelf.specs.Outcomes.{KeepFails}
 use Rattle.run_shelf.specs.declared.faults.ShelfCall.{ShelfCall}
+use Rattle.run_shelf.specs.declared.faults.ShelfCall.TheVariants as call
 use Rattle.run_shelf.proofs.Joining.{goes_with, stays_some, some_after}
 use Rattle.run_shelf.proofs.RunLemmas.{put_here}
-use Rattle.old_copies.specs.Copying.{folder_in, IsName, Between, HasCopies, HoldsOther, StepFails, PassesCopies, Copies, GoesBy, CopyStep, Places, folder_failed, site_failed}
+use Rattle.old_copies.specs.Copying.{folder_in, IsName, Between, HasCopies, HoldsOther, StepFails, PassesCopies, ReadsCopies, Copies, GoesBy, CopyStep, Places, folder_failed, site_failed}
 use Rattle.old_copies.specs.Looking.{IsOfFolder, IsOfSite}
 use Rattle.old_copies.specs.declared.faults.OldCopyFault.{OldCopyFault}
 use Rattle.old_copies.specs.declared.faults.OldCopyFault.TheVariants.{Here, OldHere, StrangeHere, NoStore, NotOld, UnknownFormat, BadCount, OtherFiles, Site, Shelf, NoMemory}
@@ -37,10 +39,10 @@ quiet_folder T n NotOld of = absurd of
 quiet_folder T n UnknownFormat of = absurd of
 quiet_folder T n BadCount of = absurd of
 quiet_folder T n OtherFiles of = absurd of
-quiet_folder T n (Shelf call) of = absurd of
+quiet_folder T n (Shelf which) of = absurd of
 
 pub quiet_site : (T : Type 0) (n m : ℕ) (fault : OldCopyFault) → IsOfFolder fault → RisesExactlyIf n m false → RisesExactlyIf n m (site_failed {T = T} (Err fault))
-quiet_site T n m (Shelf call) of stands = stands
+quiet_site T n m (Shelf which) of stands = stands
 quiet_site T n m NoMemory of stands = stands
 quiet_site T n m Here of stands = absurd of
 quiet_site T n m OldHere of stands = absurd of
@@ -65,10 +67,10 @@ of_site Of old files NotOld of = absurd of
 of_site Of old files UnknownFormat of = absurd of
 of_site Of old files BadCount of = absurd of
 of_site Of old files OtherFiles of = absurd of
-of_site Of old files (Shelf call) of = absurd of
+of_site Of old files (Shelf which) of = absurd of
 
 pub of_folder : (Of : List ℕ → Type 0) (old files : Files) (fault : OldCopyFault) → IsOfFolder fault → StepFails Of old files fault
-of_folder Of old files (Shelf call) of = tt
+of_folder Of old files (Shelf which) of = tt
 of_folder Of old files NoMemory of = tt
 of_folder Of old files Here of = absurd of
 of_folder Of old files OldHere of = absurd of
@@ -79,6 +81,22 @@ of_folder Of old files UnknownFormat of = absurd of
 of_folder Of old files BadCount of = absurd of
 of_folder Of old files OtherFiles of = absurd of
 of_folder Of old files Site of = absurd of
+
+-- ---- what reads give where a file was not kept
+
+same_published : (s t : Folder) → SameDisk s t → t.disk.published ≡ s.disk.published
+same_published s t same = ap (λ (d : Disk). d.published) same
+
+kept_or_not : (name bytes : List ℕ) (which : ShelfCall) (s t : Folder) → KeepFails name bytes which s t → (t.disk.published ≡ s.disk.published) ⊎ (t.disk.published ≡ put s.disk.published name bytes)
+kept_or_not name bytes call.Names s t fails = absurd fails
+kept_or_not name bytes call.Length s t fails = absurd fails
+kept_or_not name bytes call.ReadAt s t fails = absurd fails
+kept_or_not name bytes call.StartDraft s t fails = inl (same_published s t fails)
+kept_or_not name bytes call.Append s t fails = inl (same_published s t fails)
+kept_or_not name bytes call.SyncDraft s t fails = inl (same_published s t fails)
+kept_or_not name bytes call.Publish s t (inl same) = inl (same_published s t same)
+kept_or_not name bytes call.Publish s t (inr reads) = inr reads
+kept_or_not name bytes call.SyncFolder s t fails = inr fails
 
 -- ---- what is told of both
 
@@ -99,11 +117,17 @@ by_known from (Some files) P a b Q known each = each (folder_in from files) know
 still_passes : (Of : List ℕ → Type 0) (old : Files) (s t : Folder) → Stays s t → PassesCopies Of old s t
 still_passes Of old s t same = passes_same (λ image. IsImage s.disk image ⊎ Between Of old s.disk.published image) s t (ap (λ (f : Folder). f.disk) same) (ap (λ (f : Folder). f.past) same)
 
+still_reads : (Of : List ℕ → Type 0) (old : Files) (s t : Folder) → Stays s t → ReadsCopies Of old s t
+still_reads Of old s t same other = inl (ap (λ (f : Folder). f.disk.published other) same)
+
 -- ---- nothing was put
 
 module _ (Of : List ℕ → Type 0) (from : List ℕ) (x y : Places) (same : y.site.told ≡ x.site.told) (stays : Goes x.folder.told y.folder.told Stays) where
   still_moments : GoesBy from x y (PassesCopies Of)
   still_moments = told_or_not from x.site.told x.folder.told y.folder.told (PassesCopies Of) (λ old. goes_weaker x.folder.told y.folder.told Stays (PassesCopies Of old) stays (still_passes Of old))
+
+  still_seen : GoesBy from x y (ReadsCopies Of)
+  still_seen = told_or_not from x.site.told x.folder.told y.folder.told (ReadsCopies Of) (λ old. goes_weaker x.folder.told y.folder.told Stays (ReadsCopies Of old) stays (still_reads Of old))
 
   pub not_put : {T : Type 0} (fault : OldCopyFault) → ((old files : Files) → StepFails Of old files fault) → RisesExactlyIf x.folder.faults y.folder.faults (folder_failed {T = T} (Err fault)) → RisesExactlyIf x.site.faults y.site.faults (site_failed {T = T} (Err fault)) → CopyStep {T = T} Of from x y (Err fault)
   not_put fault fails folder site = record {
@@ -111,6 +135,7 @@ module _ (Of : List ℕ → Type 0) (from : List ℕ) (x y : Places) (same : y.s
     rest = tt;
     copied = tt;
     refused = told_or_not from x.site.told x.folder.told y.folder.told (λ old s t. StepFails Of old s.disk.published fault) (λ old. goes_weaker x.folder.told y.folder.told Stays (λ s t. StepFails Of old s.disk.published fault) stays (λ s t is. fails old s.disk.published));
+    reads = still_seen;
     any_moment = still_moments;
     folder = folder;
     site = site;
@@ -137,6 +162,7 @@ module _ (name from : List ℕ) (x y : Places) (there here : Option (List ℕ)) 
     rest = stays_some x.folder.told y.folder.told AtRest rest stays;
     copied = by_known from x.site.told (λ old. old name ≡ there) x.folder.told y.folder.told (Copies (IsName name)) read_there (λ old is. goes_weaker x.folder.told y.folder.told (λ s t. (here ≡ s.disk.published name) × Stays s t) (Copies (IsName name) old) known_here (has_same equal old is));
     refused = tt;
+    reads = still_seen (IsName name) from x y same stays;
     any_moment = still_moments (IsName name) from x y same stays;
     folder = folder;
     site = site;
@@ -157,6 +183,7 @@ module _ (name from : List ℕ) (x y : Places) (there here : Option (List ℕ)) 
     rest = tt;
     copied = tt;
     refused = by_known from x.site.told (λ old. old name ≡ there) x.folder.told y.folder.told (λ old s t. StepFails (IsName name) old s.disk.published OtherFiles) read_there (λ old is. goes_weaker x.folder.told y.folder.told (λ s t. (here ≡ s.disk.published name) × Stays s t) (λ s t. StepFails (IsName name) old s.disk.published OtherFiles) known_here (holds_other some differs old is));
+    reads = still_seen (IsName name) from x y same stays;
     any_moment = still_moments (IsName name) from x y same stays;
     folder = folder;
     site = site;
@@ -195,6 +222,15 @@ module _ (name from : List ℕ) (x y : Places) (there here : Option (List ℕ)) 
     put_moments : Goes y.folder.told z.folder.told (PassesFile name bytes) → GoesBy from x z (PassesCopies (IsName name))
     put_moments passes = by_known from x.site.told (λ old. old name ≡ there) x.folder.told z.folder.told (PassesCopies (IsName name)) read_there (λ old is. goes_weaker x.folder.told z.folder.told (PassesFile name bytes) (PassesCopies (IsName name) old) (from_first (PassesFile name bytes) passes) (put_passes old is))
 
+    put_reads : (old : Files) → old name ≡ there → (s t : Folder) → (t.disk.published ≡ s.disk.published) ⊎ (t.disk.published ≡ put s.disk.published name bytes) → ReadsCopies (IsName name) old s t
+    put_reads old is s t (inl same_files) other = inl (ap (λ (f : Files). f other) same_files)
+    put_reads old is s t (inr new) other = subst (λ (f : Files). Between (IsName name) old s.disk.published f) (sym new) (put_between old s.disk.published is) other
+
+    put_seen : Goes y.folder.told z.folder.told (λ s t. (t.disk.published ≡ s.disk.published) ⊎ (t.disk.published ≡ put s.disk.published name bytes)) → GoesBy from x z (ReadsCopies (IsName name))
+    put_seen step =
+        let Seen_so : Folder → Folder → Type 0 = λ s t. (t.disk.published ≡ s.disk.published) ⊎ (t.disk.published ≡ put s.disk.published name bytes) in
+        by_known from x.site.told (λ old. old name ≡ there) x.folder.told z.folder.told (ReadsCopies (IsName name)) read_there (λ old is. goes_weaker x.folder.told z.folder.told Seen_so (ReadsCopies (IsName name) old) (from_first Seen_so step) (put_reads old is))
+
     rests_then : (s t : Folder) → KeepsFile name bytes s t → AtRest t
     rests_then s t kept = kept ∙ ap at_rest (sym (ap (λ (d : Disk). d.published) kept))
 
@@ -210,17 +246,19 @@ module _ (name from : List ℕ) (x y : Places) (there here : Option (List ℕ)) 
       rest = some_after y.folder.told z.folder.told (KeepsFile name bytes) AtRest kept rests_then;
       copied = by_known from x.site.told (λ old. old name ≡ there) x.folder.told z.folder.told (Copies (IsName name)) read_there (λ old is. goes_weaker x.folder.told z.folder.told (KeepsFile name bytes) (Copies (IsName name) old) (from_first (KeepsFile name bytes) kept) (put_copies old is));
       refused = tt;
+      reads = put_seen (goes_weaker y.folder.told z.folder.told (KeepsFile name bytes) (λ s t. (t.disk.published ≡ s.disk.published) ⊎ (t.disk.published ≡ put s.disk.published name bytes)) kept (λ s t is. inr (ap (λ (d : Disk). d.published) is)));
       any_moment = put_moments passes;
       folder = subst (λ (n : ℕ). RisesExactlyIf x.folder.faults n false) (sym quiet) folder;
       site = later_faults;
     }
 
-    pub put_failed : {T : Type 0} (call : ShelfCall) → Goes y.folder.told z.folder.told (PassesFile name bytes) → RisesExactlyIf y.folder.faults z.folder.faults true → CopyStep {T = T} (IsName name) from x z (Err (Shelf call))
-    put_failed call passes rose = record {
+    pub put_failed : {T : Type 0} (which : ShelfCall) → Goes y.folder.told z.folder.told (KeepFails name bytes which) → Goes y.folder.told z.folder.told (PassesFile name bytes) → RisesExactlyIf y.folder.faults z.folder.faults true → CopyStep {T = T} (IsName name) from x z (Err (Shelf which))
+    put_failed which fails passes rose = record {
       same = later_told;
       rest = tt;
       copied = tt;
-      refused = told_or_not from x.site.told x.folder.told z.folder.told (λ old s t. StepFails (IsName name) old s.disk.published (Shelf call)) (λ old. goes_weaker x.folder.told z.folder.told (PassesFile name bytes) (λ s t. StepFails (IsName name) old s.disk.published (Shelf call)) (from_first (PassesFile name bytes) passes) (λ s t p. tt));
+      refused = told_or_not from x.site.told x.folder.told z.folder.told (λ old s t. StepFails (IsName name) old s.disk.published (Shelf which)) (λ old. goes_weaker x.folder.told z.folder.told (PassesFile name bytes) (λ s t. StepFails (IsName name) old s.disk.published (Shelf which)) (from_first (PassesFile name bytes) passes) (λ s t p. tt));
+      reads = put_seen (goes_weaker y.folder.told z.folder.told (KeepFails name bytes which) (λ s t. (t.disk.published ≡ s.disk.published) ⊎ (t.disk.published ≡ put s.disk.published name bytes)) fails (kept_or_not name bytes which));
       any_moment = put_moments passes;
       folder = subst (λ (n : ℕ). RisesExactlyIf n z.folder.faults true) (folder.stands refl) rose;
       site = later_faults;

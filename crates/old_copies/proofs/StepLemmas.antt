@@ -5,10 +5,10 @@ use Rattle.edge_io.specs.Disk.{Files, Folder}
 use Rattle.edge_io.specs.Steps.{Goes}
 use Rattle.edge_io.proofs.Going.{goes_then, goes_weaker}
 use Rattle.run_shelf.specs.Images.{AtRest}
-use Rattle.old_copies.specs.Copying.{folder_in, Either, HasCopies, Places, StepFails, PassesCopies, Copies, GoesBy, CopyStep, folder_failed, site_failed}
+use Rattle.old_copies.specs.Copying.{folder_in, Either, HasCopies, Places, StepFails, PassesCopies, ReadsCopies, Copies, GoesBy, CopyStep, folder_failed, site_failed}
 use Rattle.old_copies.specs.declared.faults.OldCopyFault.{OldCopyFault}
 use Rattle.old_copies.specs.declared.faults.OldCopyFault.TheVariants.{Here, OldHere, StrangeHere, NoStore, NotOld, UnknownFormat, BadCount, OtherFiles, Site, Shelf, NoMemory}
-use Rattle.old_copies.proofs.BetweenLemmas.{copies_wider, passes_wider, other_wider, copies_then, other_back, passes_both}
+use Rattle.old_copies.proofs.BetweenLemmas.{between_wider, both_between, copies_wider, passes_wider, other_wider, copies_then, other_back, passes_both}
 
 -- ---- what is told
 
@@ -82,6 +82,7 @@ failed_wider {T = T} {U = U} A B from x y fault wider step = record {
   rest = tt;
   copied = tt;
   refused = by_weaker from x.site.told x.folder.told y.folder.told (λ old s t. StepFails A old s.disk.published fault) (λ old s t. StepFails B old s.disk.published fault) step.refused (λ old s t. fails_wider A B old s.disk.published wider fault);
+  reads = by_weaker from x.site.told x.folder.told y.folder.told (ReadsCopies A) (ReadsCopies B) step.reads (λ old s t. between_wider A B old s.disk.published t.disk.published wider);
   any_moment = by_weaker from x.site.told x.folder.told y.folder.told (PassesCopies A) (PassesCopies B) step.any_moment (λ old. passes_wider A B old wider);
   folder = subst (RisesExactlyIf x.folder.faults y.folder.faults) (same_folder fault) step.folder;
   site = subst (RisesExactlyIf x.site.faults y.site.faults) (same_site fault) step.site;
@@ -120,6 +121,7 @@ done_same A B from x y value other wider back step = record {
   rest = step.rest;
   copied = by_weaker from x.site.told x.folder.told y.folder.told (Copies A) (Copies B) step.copied (λ old s t. copies_wider A B old s.disk.published t.disk.published wider back);
   refused = tt;
+  reads = by_weaker from x.site.told x.folder.told y.folder.told (ReadsCopies A) (ReadsCopies B) step.reads (λ old s t. between_wider A B old s.disk.published t.disk.published wider);
   any_moment = by_weaker from x.site.told x.folder.told y.folder.told (PassesCopies A) (PassesCopies B) step.any_moment (λ old. passes_wider A B old wider);
   folder = step.folder;
   site = step.site;
@@ -137,12 +139,16 @@ module _ {T : Type 0} (A B : List ℕ → Type 0) (from : List ℕ) (x y z : Pla
       pair_by None one two = tt
       pair_by (Some files) one two = goes_both x.folder.told y.folder.told (Copies A (folder_in from files)) (PassesCopies A (folder_in from files)) one two
 
+  reads_then : {U : Type 0} (result : Result U OldCopyFault) → CopyStep B from y z result → GoesBy from x z (ReadsCopies (Either A B))
+  reads_then result second = by_then from x.site.told y.site.told x.folder.told y.folder.told z.folder.told first.same first.rest (Copies A) (ReadsCopies B) (ReadsCopies (Either A B)) first.copied second.reads (λ old s m t rest p q. both_between A B old s.disk.published m.disk.published p t.disk.published q)
+
   pub step_then : {U : Type 0} (result : Result U OldCopyFault) → CopyStep B from y z result → CopyStep (Either A B) from x z result
   step_then (Ok done) second = record {
     same = second.same ∙ first.same;
     rest = second.rest;
     copied = by_then from x.site.told y.site.told x.folder.told y.folder.told z.folder.told first.same first.rest (Copies A) (Copies B) (Copies (Either A B)) first.copied second.copied (λ old s m t rest p q. copies_then A B old s.disk.published m.disk.published p t.disk.published q);
     refused = tt;
+    reads = reads_then (Ok done) second;
     any_moment = moments (Ok done) second;
     folder = counts_then x.folder.faults y.folder.faults z.folder.faults false first.folder second.folder;
     site = counts_then x.site.faults y.site.faults z.site.faults false first.site second.site;
@@ -152,6 +158,7 @@ module _ {T : Type 0} (A B : List ℕ → Type 0) (from : List ℕ) (x y z : Pla
     rest = tt;
     copied = tt;
     refused = by_then from x.site.told y.site.told x.folder.told y.folder.told z.folder.told first.same first.rest (Copies A) (λ old s t. StepFails B old s.disk.published fault) (λ old s t. StepFails (Either A B) old s.disk.published fault) first.copied second.refused (λ old s m t rest p q. fails_back A B old s.disk.published m.disk.published p fault q);
+    reads = reads_then (Err fault) second;
     any_moment = moments (Err fault) second;
     folder = counts_then x.folder.faults y.folder.faults z.folder.faults _ first.folder second.folder;
     site = counts_then x.site.faults y.site.faults z.site.faults _ first.site second.site;

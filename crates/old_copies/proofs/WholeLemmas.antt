@@ -8,10 +8,13 @@ use Rattle.edge_io.specs.Seen.{Seen}
 use Rattle.edge_io.specs.Steps.{Goes, Settled, Stays}
 use Rattle.edge_io.proofs.Going.{goes_then, goes_weaker, goes_from}
 use Rattle.edge_io.proofs.Passing.{passes_same, passes_then, passes_weaker}
+use Rattle.run_shelf.specs.declared.faults.ShelfCall.{ShelfCall}
+use Rattle.run_shelf.specs.declared.faults.ShelfCall.TheVariants as call
 use Rattle.run_shelf.specs.Images.{AtRest, PassesOld}
+use Rattle.run_shelf.specs.Outcomes.{FailsAt}
 use Rattle.run_shelf.specs.Repository.{full_name, format_name}
 use Rattle.run_shelf.proofs.Joining.{rest_images, goes_beside, goes_after, goes_with, settled_stays, some_after}
-use Rattle.old_copies.specs.Copying.{folder_in, IsName, Either, IsRunBelow, IsCopiedFirst, IsCopied, Between, HasCopies, HoldsOther, Places, places, folder_failed, site_failed, StepFails, PassesCopies, Copies, CopyStep, IsBeingCopied, PassesWay, CopiesAll, IsOldFolder, PassesTaking, TakesFiles, HasOtherFiles, CopyFails, CopiesOld}
+use Rattle.old_copies.specs.Copying.{folder_in, IsName, Either, IsRunBelow, IsCopiedFirst, IsCopied, Between, HasCopies, HoldsOther, Places, places, folder_failed, site_failed, StepFails, PassesCopies, ReadsCopies, Copies, CopyStep, IsBeingCopied, PassesWay, ReadsWay, CopiesAll, IsOldFolder, PassesTaking, TakesFiles, HasOtherFiles, SameReads, CopyFails, CopiesOld}
 use Rattle.old_copies.specs.Looking.{IsFree, HereFails, HoldsNoOther, CopyNamesFail, CopyLookFails}
 use Rattle.old_copies.specs.declared.faults.OldCopyFault.{OldCopyFault}
 use Rattle.old_copies.specs.declared.faults.OldCopyFault.TheVariants as fault
@@ -49,6 +52,7 @@ no_runs from x value rest = record {
   rest = rest;
   copied = told_or_not from x.site.told x.folder.told x.folder.told (Copies (IsRunBelow 0)) (λ old. still (Copies (IsRunBelow 0) old) x.folder.told (λ s. record { each = λ name below. absurd (omega (arith, below.1)); between = between_self (IsRunBelow 0) old s.disk.published }));
   refused = tt;
+  reads = told_or_not from x.site.told x.folder.told x.folder.told (ReadsCopies (IsRunBelow 0)) (λ old. still (ReadsCopies (IsRunBelow 0) old) x.folder.told (λ s. between_self (IsRunBelow 0) old s.disk.published));
   any_moment = told_or_not from x.site.told x.folder.told x.folder.told (PassesCopies (IsRunBelow 0)) (λ old. still (PassesCopies (IsRunBelow 0) old) x.folder.told (λ s. passes_same (λ image. IsImage s.disk image ⊎ Between (IsRunBelow 0) old s.disk.published image) s s refl refl));
   folder = rests x.folder.faults x.folder.faults refl;
   site = rests x.site.faults x.site.faults refl;
@@ -105,14 +109,17 @@ module _ (count : ℕ) (old : Files) where
           | inr taken ↦ taken.1
         ]
 
+    pub last_between : (image : Files) → Between (IsName format_name) old m.disk.published image → IsBeingCopied count old s.disk.published image
+    last_between image between = elim (between format_name) [
+      | inl same ↦ inl (without image between same)
+      | inr taken ↦ inr (with_it image between taken.1)
+    ]
+
     last_image : (image : Files) → IsImage m.disk image ⊎ Between (IsName format_name) old m.disk.published image → IsImage s.disk image ⊎ IsBeingCopied count old s.disk.published image
     last_image image (inl was) =
         let is : image ≡ m.disk.published = rest_images m.disk.published image (subst (λ (d : Disk). IsImage d image) rest was) in
         inr (inl (subst (λ (f : Files). Between (IsCopiedFirst count) old s.disk.published f) (sym is) has.between))
-    last_image image (inr between) = elim (between format_name) [
-      | inl same ↦ inr (inl (without image between same))
-      | inr taken ↦ inr (inr (with_it image between taken.1))
-    ]
+    last_image image (inr between) = inr (last_between image between)
 
     pub way_then : (t : Folder) → PassesCopies (IsCopiedFirst count) old s m → PassesCopies (IsName format_name) old m t → PassesWay count old s t
     way_then t first second =
@@ -125,12 +132,15 @@ first_named count name first = inl first
 pub all_stop : {T U : Type 0} (count : ℕ) (from : List ℕ) (x y : Places) (bad : OldCopyFault) → CopyStep {T = T} (IsCopiedFirst count) from x y (Err bad) → CopiesAll {T = U} count from x y (Err bad)
 all_stop {T = T} count from x y bad step = record {
   step = failed_wider {T = T} (IsCopiedFirst count) (IsCopied count) from x y bad (first_named count) step;
+  reads = by_weaker from x.site.told x.folder.told y.folder.told (ReadsCopies (IsCopiedFirst count)) (ReadsWay count) step.reads (λ old s t between. inl between);
   way = by_weaker from x.site.told x.folder.told y.folder.told (PassesCopies (IsCopiedFirst count)) (PassesWay count) step.any_moment (way_first count);
 }
 
 pub all_then : {T U : Type 0} (count : ℕ) (from : List ℕ) (x y z : Places) (value : T) (result : Result U OldCopyFault) → CopyStep (IsCopiedFirst count) from x y (Ok value) → CopyStep (IsName format_name) from y z result → CopiesAll count from x z result
 all_then count from x y z value result first second = record {
   step = step_then (IsCopiedFirst count) (IsName format_name) from x y z value first result second;
+  reads = by_then from x.site.told y.site.told x.folder.told y.folder.told z.folder.told first.same first.rest (Copies (IsCopiedFirst count)) (ReadsCopies (IsName format_name)) (ReadsWay count) first.copied second.reads
+      (λ old s m t rest p q. last_between count old s m rest p t.disk.published q);
   way = by_then from x.site.told y.site.told x.folder.told y.folder.told z.folder.told first.same first.rest (λ old s m. Copies (IsCopiedFirst count) old s m × PassesCopies (IsCopiedFirst count) old s m) (PassesCopies (IsName format_name)) (PassesWay count)
       (pair_by x.site.told first.copied first.any_moment) second.any_moment
       (λ old s m t rest p q. way_then count old s m rest p.0 t p.1 q);
@@ -156,69 +166,94 @@ way_beside count old is m t passes = passes_weaker (λ image. IsImage m.disk ima
 old_moments : (old : Files) (s t : Folder) → PassesOld s t → PassesTaking old s t
 old_moments old s t passes = passes_weaker (IsImage s.disk) (λ image. IsImage s.disk image ⊎ TakingBeside old s.disk.published image) (λ image was. inl was) s t passes
 
-here_fails : (old files : Files) (bad : OldCopyFault) → HereFails bad files → CopyFails old files bad
-here_fails old files fault.Here fails = fails
-here_fails old files fault.OldHere fails = fails
-here_fails old files fault.StrangeHere fails = fails
-here_fails old files (fault.Shelf call) fails = tt
-here_fails old files fault.NoMemory fails = tt
-here_fails old files fault.NoStore fails = absurd fails
-here_fails old files fault.NotOld fails = absurd fails
-here_fails old files fault.UnknownFormat fails = absurd fails
-here_fails old files fault.BadCount fails = absurd fails
-here_fails old files fault.OtherFiles fails = absurd fails
-here_fails old files fault.Site fails = absurd fails
+settled_reads : (s t : Folder) → Settled s t → SameReads s t
+settled_reads s t is = ap (λ (f : Folder). f.disk.published) is
 
-there_fails : (old files : Files) (bad : OldCopyFault) → CopyLookFails old bad → CopyFails old files bad
-there_fails old files fault.NoStore fails = fails
-there_fails old files fault.NotOld fails = fails
-there_fails old files fault.UnknownFormat fails = fails
-there_fails old files fault.BadCount fails = fails
-there_fails old files fault.Site fails = tt
-there_fails old files fault.NoMemory fails = tt
-there_fails old files fault.Here fails = absurd fails
-there_fails old files fault.OldHere fails = absurd fails
-there_fails old files fault.StrangeHere fails = absurd fails
-there_fails old files fault.OtherFiles fails = absurd fails
-there_fails old files (fault.Shelf call) fails = absurd fails
+failed_reads : (which : ShelfCall) (s t : Folder) → FailsAt which s t → SameReads s t
+failed_reads call.SyncFolder s t fails = ap (λ (f : Folder). f.disk.published) fails
+failed_reads call.Names s t fails = settled_reads s t fails
+failed_reads call.Length s t fails = settled_reads s t fails
+failed_reads call.ReadAt s t fails = settled_reads s t fails
+failed_reads call.StartDraft s t fails = absurd fails
+failed_reads call.Append s t fails = absurd fails
+failed_reads call.SyncDraft s t fails = absurd fails
+failed_reads call.Publish s t fails = absurd fails
 
-names_fail : (count : ℕ) (old : Files) (s : Folder) (is_old : IsOldFolder count old) (bad : OldCopyFault) → CopyNamesFail count bad s → CopyFails old s.disk.published bad
-names_fail count old s is_old fault.OtherFiles fails = record { count = count; is_old = is_old; name = fails.name; there = fails.there; other = λ first. absurd (fails.other first) }
-names_fail count old s is_old (fault.Shelf call) fails = tt
-names_fail count old s is_old fault.NoMemory fails = tt
-names_fail count old s is_old fault.Here fails = absurd fails
-names_fail count old s is_old fault.OldHere fails = absurd fails
-names_fail count old s is_old fault.StrangeHere fails = absurd fails
-names_fail count old s is_old fault.NoStore fails = absurd fails
-names_fail count old s is_old fault.NotOld fails = absurd fails
-names_fail count old s is_old fault.UnknownFormat fails = absurd fails
-names_fail count old s is_old fault.BadCount fails = absurd fails
-names_fail count old s is_old fault.Site fails = absurd fails
+here_fails : (old : Files) (bad : OldCopyFault) (s t : Folder) → HereFails bad s t → CopyFails old bad s t
+here_fails old fault.Here s t fails = (fails.0, settled_reads s t fails.1)
+here_fails old fault.OldHere s t fails = (fails.0, settled_reads s t fails.1)
+here_fails old fault.StrangeHere s t fails = (fails.0, settled_reads s t fails.1)
+here_fails old (fault.Shelf which) s t fails = inl (failed_reads which s t fails)
+here_fails old fault.NoMemory s t fails = inl (settled_reads s t fails)
+here_fails old fault.NoStore s t fails = absurd fails
+here_fails old fault.NotOld s t fails = absurd fails
+here_fails old fault.UnknownFormat s t fails = absurd fails
+here_fails old fault.BadCount s t fails = absurd fails
+here_fails old fault.OtherFiles s t fails = absurd fails
+here_fails old fault.Site s t fails = absurd fails
+
+-- behind the look here, as long as nothing was copied
+module _ (old : Files) (s t : Folder) (free : IsFree s t) where
+  there_fails : (bad : OldCopyFault) → CopyLookFails old bad → CopyFails old bad s t
+  there_fails fault.NoStore fails = (free.none, fails, settled_reads s t free.settled)
+  there_fails fault.NotOld fails = (free.none, fails, settled_reads s t free.settled)
+  there_fails fault.UnknownFormat fails = (free.none, fails, settled_reads s t free.settled)
+  there_fails fault.BadCount fails = (free.none, fails, settled_reads s t free.settled)
+  there_fails fault.Site fails = (free.none, inl (settled_reads s t free.settled))
+  there_fails fault.NoMemory fails = inl (settled_reads s t free.settled)
+  there_fails fault.Here fails = absurd fails
+  there_fails fault.OldHere fails = absurd fails
+  there_fails fault.StrangeHere fails = absurd fails
+  there_fails fault.OtherFiles fails = absurd fails
+  there_fails (fault.Shelf which) fails = absurd fails
+
+  names_fail : (count : ℕ) → IsOldFolder count old → (bad : OldCopyFault) → CopyNamesFail count bad t → CopyFails old bad s t
+  names_fail count is_old fault.OtherFiles fails = (
+    free.none,
+    record {
+      count = count;
+      is_old = is_old;
+      name = fails.name;
+      there = subst IsSome (ap (λ (f : Folder). f.disk.published fails.name) free.settled) fails.there;
+      other = λ first. absurd (fails.other first);
+    },
+    inl (settled_reads s t free.settled),
+  )
+  names_fail count is_old (fault.Shelf which) fails = inl (settled_reads s t free.settled)
+  names_fail count is_old fault.NoMemory fails = inl (settled_reads s t free.settled)
+  names_fail count is_old fault.Here fails = absurd fails
+  names_fail count is_old fault.OldHere fails = absurd fails
+  names_fail count is_old fault.StrangeHere fails = absurd fails
+  names_fail count is_old fault.NoStore fails = absurd fails
+  names_fail count is_old fault.NotOld fails = absurd fails
+  names_fail count is_old fault.UnknownFormat fails = absurd fails
+  names_fail count is_old fault.BadCount fails = absurd fails
+  names_fail count is_old fault.Site fails = absurd fails
 
 other_files : (count : ℕ) (old files : Files) → IsOldFolder count old → files format_name ≡ None → HoldsOther (IsCopied count) old files → HasOtherFiles old files
 other_files count old files is_old none holds = record { count = count; is_old = is_old; name = holds.name; there = holds.there; other = λ first. holds.other }
 
-step_fails : (count : ℕ) (old files : Files) → IsOldFolder count old → files format_name ≡ None → (bad : OldCopyFault) → StepFails (IsCopied count) old files bad → CopyFails old files bad
-step_fails count old files is_old none fault.OtherFiles fails = other_files count old files is_old none fails
-step_fails count old files is_old none fault.Site fails = tt
-step_fails count old files is_old none (fault.Shelf call) fails = tt
-step_fails count old files is_old none fault.NoMemory fails = tt
-step_fails count old files is_old none fault.Here fails = absurd fails
-step_fails count old files is_old none fault.OldHere fails = absurd fails
-step_fails count old files is_old none fault.StrangeHere fails = absurd fails
-step_fails count old files is_old none fault.NoStore fails = absurd fails
-step_fails count old files is_old none fault.NotOld fails = absurd fails
-step_fails count old files is_old none fault.UnknownFormat fails = absurd fails
-step_fails count old files is_old none fault.BadCount fails = absurd fails
+step_fails : (count : ℕ) (old : Files) (s t : Folder) → IsOldFolder count old → s.disk.published format_name ≡ None → ReadsWay count old s t → (bad : OldCopyFault) → StepFails (IsCopied count) old s.disk.published bad → CopyFails old bad s t
+step_fails count old s t is_old none way fault.OtherFiles fails = (none, other_files count old s.disk.published is_old none fails, inr (count, is_old, way))
+step_fails count old s t is_old none way fault.Site fails = (none, inr (count, is_old, way))
+step_fails count old s t is_old none way (fault.Shelf which) fails = inr (count, is_old, way)
+step_fails count old s t is_old none way fault.NoMemory fails = inr (count, is_old, way)
+step_fails count old s t is_old none way fault.Here fails = absurd fails
+step_fails count old s t is_old none way fault.OldHere fails = absurd fails
+step_fails count old s t is_old none way fault.StrangeHere fails = absurd fails
+step_fails count old s t is_old none way fault.NoStore fails = absurd fails
+step_fails count old s t is_old none way fault.NotOld fails = absurd fails
+step_fails count old s t is_old none way fault.UnknownFormat fails = absurd fails
+step_fails count old s t is_old none way fault.BadCount fails = absurd fails
 
 -- ---- the whole
 
 -- the folder here is not free
-pub stops_here : (from : List ℕ) (f g : Seen Folder) (w : Seen Files) (bad : OldCopyFault) → Goes f.told g.told (λ s t. HereFails bad s.disk.published) → Goes f.told g.told PassesOld → RisesExactlyIf f.faults g.faults (folder_failed {T = Unit {0}} (Err bad)) → site_failed {T = Unit {0}} (Err bad) ≡ false → CopiesOld from (places f w) (places g w) (Err bad)
+pub stops_here : (from : List ℕ) (f g : Seen Folder) (w : Seen Files) (bad : OldCopyFault) → Goes f.told g.told (HereFails bad) → Goes f.told g.told PassesOld → RisesExactlyIf f.faults g.faults (folder_failed {T = Unit {0}} (Err bad)) → site_failed {T = Unit {0}} (Err bad) ≡ false → CopiesOld from (places f w) (places g w) (Err bad)
 stops_here from f g w bad fails passes count quiet = record {
   same = refl;
   copied = tt;
-  refused = told_or_not from w.told f.told g.told (λ old s t. CopyFails old s.disk.published bad) (λ old. goes_weaker f.told g.told (λ s t. HereFails bad s.disk.published) (λ s t. CopyFails old s.disk.published bad) fails (λ s t is. here_fails old s.disk.published bad is));
+  refused = told_or_not from w.told f.told g.told (λ old. CopyFails old bad) (λ old. goes_weaker f.told g.told (HereFails bad) (CopyFails old bad) fails (here_fails old bad));
   any_moment = told_or_not from w.told f.told g.told PassesTaking (λ old. goes_weaker f.told g.told PassesOld (PassesTaking old) passes (old_moments old));
   folder = count;
   site = subst (RisesExactlyIf w.faults w.faults) (sym quiet) (rests w.faults w.faults refl);
@@ -237,7 +272,7 @@ module _ (from : List ℕ) (f g : Seen Folder) (w v : Seen Files) (counts : IfSo
   stops_there bad fails folder quiet site = record {
     same = same;
     copied = tt;
-    refused = by_known from w.told (λ old. CopyLookFails old bad) f.told g.told (λ old s t. CopyFails old s.disk.published bad) fails (λ old is. goes_weaker f.told g.told Settled (λ s t. CopyFails old s.disk.published bad) settled (λ s t p. there_fails old s.disk.published bad is));
+    refused = by_known from w.told (λ old. CopyLookFails old bad) f.told g.told (λ old. CopyFails old bad) fails (λ old is. goes_weaker f.told g.told IsFree (CopyFails old bad) free (λ s t p. there_fails old s t p bad is));
     any_moment = told_or_not from w.told f.told g.told PassesTaking (λ old. goes_beside f.told g.told counts settled (TakingBeside old));
     folder = subst (RisesExactlyIf f.faults g.faults) (sym quiet) folder;
     site = site;
@@ -259,7 +294,7 @@ module _ (from : List ℕ) (f g : Seen Folder) (w v : Seen Files) (counts : IfSo
     stops_at_names bad fails folder quiet site = record {
       same = same;
       copied = tt;
-      refused = by_known from w.told (IsOldFolder count) f.told h.told (λ old s t. CopyFails old s.disk.published bad) is_old (λ old is. goes_then f.told g.told h.told Settled (λ m t. CopyNamesFail count bad m × Stays m t) (λ s t. CopyFails old s.disk.published bad) settled (goes_with g.told h.told (CopyNamesFail count bad) Stays fails stays) (λ s m t p q. subst (λ (files : Files). CopyFails old files bad) (ap (λ (u : Folder). u.disk.published) p) (names_fail count old m is bad q.0)));
+      refused = by_known from w.told (IsOldFolder count) f.told h.told (λ old. CopyFails old bad) is_old (λ old is. goes_then f.told g.told h.told IsFree (λ m t. CopyNamesFail count bad m × Stays m t) (CopyFails old bad) free (goes_with g.told h.told (CopyNamesFail count bad) Stays fails stays) (λ s m t p q. subst (λ (u : Folder). CopyFails old bad s u) (sym q.1) (names_fail old s m p count is bad q.0)));
       any_moment = told_or_not from w.told f.told h.told PassesTaking (λ old. goes_beside f.told h.told counts settled_all (TakingBeside old));
       folder = folder;
       site = subst (RisesExactlyIf w.faults v.faults) (sym quiet) site;
@@ -288,8 +323,9 @@ module _ (from : List ℕ) (f g : Seen Folder) (w v : Seen Files) (counts : IfSo
           copied = subst (λ (files : Files). HasCopies (IsCopied count) old files t.disk.published) published copied;
         }
 
-        fails_files : (bad : OldCopyFault) → StepFails (IsCopied count) old m.disk.published bad → CopyFails old s.disk.published bad
-        fails_files bad fails = step_fails count old s.disk.published is p.none bad (subst (λ (files : Files). StepFails (IsCopied count) old files bad) published fails)
+        fails_files : (bad : OldCopyFault) → StepFails (IsCopied count) old m.disk.published bad → ReadsWay count old m t → CopyFails old bad s t
+        fails_files bad fails way =
+            step_fails count old s t is p.none (subst (λ (files : Files). IsBeingCopied count old files t.disk.published) published way) bad (subst (λ (files : Files). StepFails (IsCopied count) old files bad) published fails)
 
       alone_all : IfSome h.told (HoldsNoOther count)
       alone_all = stays_some_of g.told h.told alone stays
@@ -319,12 +355,15 @@ module _ (from : List ℕ) (f g : Seen Folder) (w v : Seen Files) (counts : IfSo
       stops_all bad all = record {
         same = all.step.same ∙ same;
         copied = tt;
-        refused = by_refused w.told is_old (by_first (λ files. Goes h.told i.told (λ m t. StepFails (IsCopied count) (folder_in from files) m.disk.published bad)) all.step.refused);
+        refused = by_refused w.told is_old (by_first (λ files. Goes h.told i.told (λ m t. StepFails (IsCopied count) (folder_in from files) m.disk.published bad)) all.step.refused) (by_first (λ files. Goes h.told i.told (ReadsWay count (folder_in from files))) all.reads);
         any_moment = moments_by w.told is_old (by_first (λ files. Goes h.told i.told (PassesWay count (folder_in from files))) all.way);
         folder = counts_then f.faults h.faults i.faults _ folder all.step.folder;
         site = counts_then w.faults v.faults u.faults _ site all.step.site;
       }
         where
-          by_refused : (o : Option Files) → IfSome o (λ files. IsOldFolder count (folder_in from files)) → IfSome o (λ files. Goes h.told i.told (λ m t. StepFails (IsCopied count) (folder_in from files) m.disk.published bad)) → IfSome o (λ files. Goes f.told i.told (λ s t. CopyFails (folder_in from files) s.disk.published bad))
-          by_refused None is fails = tt
-          by_refused (Some files) is fails = goes_then f.told h.told i.told IsFree (λ m t. StepFails (IsCopied count) (folder_in from files) m.disk.published bad) (λ s t. CopyFails (folder_in from files) s.disk.published bad) free_all fails (λ s m t p q. fails_files s m t (folder_in from files) is p bad q)
+          by_refused : (o : Option Files) → IfSome o (λ files. IsOldFolder count (folder_in from files)) → IfSome o (λ files. Goes h.told i.told (λ m t. StepFails (IsCopied count) (folder_in from files) m.disk.published bad)) → IfSome o (λ files. Goes h.told i.told (ReadsWay count (folder_in from files))) → IfSome o (λ files. Goes f.told i.told (CopyFails (folder_in from files) bad))
+          by_refused None is fails way = tt
+          by_refused (Some files) is fails way =
+              let old : Files = folder_in from files in
+              let Fails : Folder → Folder → Type 0 = λ m t. StepFails (IsCopied count) old m.disk.published bad in
+              goes_then f.told h.told i.told IsFree (λ m t. Fails m t × ReadsWay count old m t) (CopyFails old bad) free_all (goes_both h.told i.told Fails (ReadsWay count old) fails way) (λ s m t p q. fails_files s m t old is p bad q.0 q.1)

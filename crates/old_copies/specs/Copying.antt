@@ -98,6 +98,10 @@ StepFails Of old files fault = ⊥
 abbrev pub PassesCopies : (Of : List ℕ → Type 0) → (old : Files) → Folder → Folder → Type 0
 PassesCopies Of old s t = Passes (λ image. IsImage s.disk image ⊎ Between Of old s.disk.published image) s t
 
+-- reads give the files as they were, or some of them as copies
+abbrev pub ReadsCopies : (Of : List ℕ → Type 0) → (old : Files) → Folder → Folder → Type 0
+ReadsCopies Of old s t = Between Of old s.disk.published t.disk.published
+
 -- the copies are there
 abbrev pub Copies : (Of : List ℕ → Type 0) → (old : Files) → Folder → Folder → Type 0
 Copies Of old s t = HasCopies Of old s.disk.published t.disk.published
@@ -112,6 +116,7 @@ pub record CopyStep {T : Type 0} (Of : List ℕ → Type 0) (from : List ℕ) (b
   pub rest : OnOk result (IfSome after.folder.told AtRest)
   pub copied : OnOk result (GoesBy from before after (Copies Of))
   pub refused : IfErr result (λ fault. GoesBy from before after (λ old s t. StepFails Of old s.disk.published fault))
+  pub reads : GoesBy from before after (ReadsCopies Of)
   pub any_moment : GoesBy from before after (PassesCopies Of)
   pub folder : RisesExactlyIf before.folder.faults after.folder.faults (folder_failed result)
   pub site : RisesExactlyIf before.site.faults after.site.faults (site_failed result)
@@ -126,9 +131,14 @@ IsBeingCopied count old files image = Between (IsCopiedFirst count) old files im
 abbrev pub PassesWay : ℕ → (old : Files) → Folder → Folder → Type 0
 PassesWay count old s t = Passes (λ image. IsImage s.disk image ⊎ IsBeingCopied count old s.disk.published image) s t
 
+-- reads give files on the way
+abbrev pub ReadsWay : ℕ → (old : Files) → Folder → Folder → Type 0
+ReadsWay count old s t = IsBeingCopied count old s.disk.published t.disk.published
+
 -- All files are copied, where there are so many runs; or why not.
 pub record CopiesAll {T : Type 0} (count : ℕ) (from : List ℕ) (before after : Places) (result : Result T OldCopyFault) : Type 0 where
   pub step : CopyStep (IsCopied count) from before after result
+  pub reads : GoesBy from before after (ReadsWay count)
   pub way : GoesBy from before after (PassesWay count)
 
 -- The other folder is one of the original tool whose number that comes next is this one.
@@ -158,25 +168,38 @@ pub record HasOtherFiles (old files : Files) : Type 0 where
   pub there : IsSome (files name)
   pub other : IsCopiedFirst count name → files name ≢ old name
 
--- why the files were not copied
-abbrev pub CopyFails : (old files : Files) → OldCopyFault → Type 0
-CopyFails old files Here = HasFormat files
-CopyFails old files OldHere = IsOld files
-CopyFails old files StrangeHere = HasStrangeFormat files
-CopyFails old files NoStore = old format_name ≡ None
-CopyFails old files NotOld = HasFormat old
-CopyFails old files UnknownFormat = HasStrangeFormat old
-CopyFails old files BadCount = LacksCount old
-CopyFails old files OtherFiles = HasOtherFiles old files
-CopyFails old files Site = ⊤
-CopyFails old files (Shelf call) = ⊤
-CopyFails old files NoMemory = ⊤
+-- reads give the files that they gave
+abbrev pub SameReads : Folder → Folder → Type 0
+SameReads s t = t.disk.published ≡ s.disk.published
+
+-- the same, or files on the way
+abbrev pub ReadsTaking : (old : Files) → Folder → Folder → Type 0
+ReadsTaking old s t = SameReads s t ⊎ ((count : ℕ) × IsOldFolder count old × ReadsWay count old s t)
+
+-- the folder is none of the two tools
+abbrev pub LacksFormat : Folder → Type 0
+LacksFormat s = s.disk.published format_name ≡ None
+
+-- Why the files were not copied, and what reads give then. A cause that comes later here is told only where no earlier one is
+-- there.
+abbrev pub CopyFails : (old : Files) → OldCopyFault → Folder → Folder → Type 0
+CopyFails old Here s t = HasFormat s.disk.published × SameReads s t
+CopyFails old OldHere s t = IsOld s.disk.published × SameReads s t
+CopyFails old StrangeHere s t = HasStrangeFormat s.disk.published × SameReads s t
+CopyFails old NoStore s t = LacksFormat s × (old format_name ≡ None) × SameReads s t
+CopyFails old NotOld s t = LacksFormat s × HasFormat old × SameReads s t
+CopyFails old UnknownFormat s t = LacksFormat s × HasStrangeFormat old × SameReads s t
+CopyFails old BadCount s t = LacksFormat s × LacksCount old × SameReads s t
+CopyFails old OtherFiles s t = LacksFormat s × HasOtherFiles old s.disk.published × ReadsTaking old s t
+CopyFails old Site s t = LacksFormat s × ReadsTaking old s t
+CopyFails old (Shelf call) s t = ReadsTaking old s t
+CopyFails old NoMemory s t = ReadsTaking old s t
 
 -- The old files of the folder of this path are copied; or why they are not. No file of that folder changes.
 pub record CopiesOld (from : List ℕ) (before after : Places) (result : Result (Unit {0}) OldCopyFault) : Type 0 where
   pub same : after.site.told ≡ before.site.told
   pub copied : OnOk result (GoesBy from before after TakesFiles)
-  pub refused : IfErr result (λ fault. GoesBy from before after (λ old s t. CopyFails old s.disk.published fault))
+  pub refused : IfErr result (λ fault. GoesBy from before after (λ old. CopyFails old fault))
   pub any_moment : GoesBy from before after PassesTaking
   pub folder : RisesExactlyIf before.folder.faults after.folder.faults (folder_failed result)
   pub site : RisesExactlyIf before.site.faults after.site.faults (site_failed result)

@@ -5,6 +5,7 @@ use Rattle.edge_io.specs.Disk.{Files, Folder}
 use Rattle.edge_io.specs.MemState.{KeptForGood}
 use Rattle.edge_io.specs.Steps.{Settled}
 use Rattle.run_shelf.specs.Adoption.{IsOld}
+use Rattle.run_shelf.specs.Outcomes.{FailsAt}
 use Rattle.run_shelf.specs.Repository.{format_name, HasFormat}
 use Rattle.old_folder.specs.Looking.{HasStrangeFormat, LacksCount}
 use Rattle.old_folder.specs.declared.faults.OldFault.{OldFault}
@@ -22,14 +23,14 @@ pub record IsFree (s t : Folder) : Type 0 where
   pub none : s.disk.published format_name ≡ None
   pub settled : Settled s t
 
--- why it is not free, or not known to be
-abbrev pub HereFails : OldCopyFault → Files → Type 0
-HereFails Here files = HasFormat files
-HereFails OldHere files = IsOld files
-HereFails StrangeHere files = HasStrangeFormat files
-HereFails (Shelf call) files = ⊤
-HereFails NoMemory files = ⊤
-HereFails fault files = ⊥
+-- why it is not free, or not known to be; no file of it changes
+abbrev pub HereFails : OldCopyFault → Folder → Folder → Type 0
+HereFails Here s t = HasFormat s.disk.published × Settled s t
+HereFails OldHere s t = IsOld s.disk.published × Settled s t
+HereFails StrangeHere s t = HasStrangeFormat s.disk.published × Settled s t
+HereFails (Shelf call) s t = FailsAt call s t
+HereFails NoMemory s t = Settled s t
+HereFails fault s t = ⊥
 
 -- each file of a text's name has one that is copied, where there are so many runs
 abbrev pub HoldsNoOther : ℕ → Folder → Type 0

@@ -15,7 +15,7 @@ use std::alloc::Global;
 /// The folder here must have no file `format`. What is pending is brought to the disk first.
 pub(crate) fn check_no_format<H: Shelf>(alloc: Global, shelf: &mut H) -> Result<(), OldCopyFault>
     ensures free { OnOk result (Goes (H.seen shelf.old).told (H.seen shelf.new).told IsFree) }
-    ensures refused { IfErr result (λ fault. Goes (H.seen shelf.old).told (H.seen shelf.new).told (λ s t. HereFails fault s.disk.published)) }
+    ensures refused { IfErr result (λ fault. Goes (H.seen shelf.old).told (H.seen shelf.new).told (HereFails fault)) }
     ensures any_moment { Goes (H.seen shelf.old).told (H.seen shelf.new).told PassesOld }
     ensures quiet { site_failed result ≡ false }
     ensures cause { RisesExactlyIf (H.seen shelf.old).faults (H.seen shelf.new).faults (folder_failed result) }
