@@ -54,8 +54,15 @@ use Rattle.testr_conf.specs.declared.fault.JobFault.{JobFault}
 use Rattle.testr_conf.specs.declared.fault.JobFault.TheVariants as job_fault
 use Rattle.testr_conf.specs.declared.ids.IdsFault.{IdsFault}
 use Rattle.testr_conf.specs.declared.ids.IdsFault.TheVariants.{NotText}
-use Rattle.testr_commands.specs.ExactSuite.{Comes, NextMeets, IsNamedBad, ListEnds, IsListAbsent, IsListTooLong, IsNoId, PatternsEnd, IsPatternsAbsent, IsPatternsTooLong, IsNoText, IsBadLine}
-use Rattle.command_steps.specs.Selecting.{HandsIds, MakesJobs, NamesIds, ids_of_shares}
+use Rattle.testr_commands.specs.ExactSuite.{Comes, NextMeets, IsNamedBad, ListEnds, IsListAbsent, IsListTooLong, IsNoId, PatternsEnd, IsPatternsAbsent, IsPatternsTooLong, IsNoText, IsBadLine, TimesEnd, IsTimesAbsent, IsTimesTooLong, IsNotTimes}
+use Rattle.run_ledger.specs.Caches.{IsTimesCache}
+use Rattle.command_steps.specs.Selecting.{HandsIds, MakesJobs, NamesIds, TimesById, ids_of_shares}
+use Rattle.command_steps.specs.TimesFile.{IsTimesFile, HasNoTimes, HasTooManyTimes, HasTimesCause, NamesTimes, ReadsTimes}
+use Rattle.command_steps.specs.declared.times_file.TheConstants.{MOST_TIMES}
+use Rattle.command_steps.specs.declared.times_file.TimesRefusal.{TimesRefusal}
+use Rattle.command_steps.specs.declared.times_file.TimesRefusal.TheVariants as times_file
+use Rattle.testr_commands.proofs.FolderLemmas.{none_or_some}
+use Rattle.testr_commands.proofs.FurtherLaws.{not_too_many}
 use Rattle.testr_commands.proofs.SuiteCauses.{from_both, not_too_much, same_text, not_refused, regex_never, not_ok}
 use Rattle.testr_commands.proofs.SuiteNever.{no_number}
 
@@ -68,9 +75,9 @@ not_there file text none there =
     absurd cc
 
 -- nor too much of it
-not_long : {X : Type 0} (file : Option (List ℕ)) → file ≡ None → IsSomeAnd file (λ text. most_text < length text) → X
-not_long None none long = absurd long
-not_long (Some text) none long = absurd cc
+not_long : {X : Type 0} (most : ℕ) (file : Option (List ℕ)) → file ≡ None → IsSomeAnd file (λ text. most < length text) → X
+not_long most None none long = absurd long
+not_long most (Some text) none long = absurd cc
 
 -- ---- the configuration
 
@@ -106,7 +113,7 @@ module _ (name : List ℕ) (before after : Seen Files) (result : Result Ids List
       by None result none lists cause named = absurd none
       by (Some files) (Ok ids) none lists cause named = not_there (files name) lists.text none lists.has.there
       by (Some files) (Err load_list.Site) none lists cause named = inr (inl refl)
-      by (Some files) (Err (load_list.TooLong given)) none lists cause named = not_long (files name) none cause
+      by (Some files) (Err (load_list.TooLong given)) none lists cause named = not_long most_text (files name) none cause
       by (Some files) (Err (load_list.Absent given)) none lists cause named = inl named
       by (Some files) (Err (load_list.NotId given number)) none lists cause named = not_there (files name) cause.text none cause.has.there
       by (Some files) (Err load_list.NoMemory) none lists cause named = inr (inr refl)
@@ -119,7 +126,7 @@ module _ (name : List ℕ) (before after : Seen Files) (result : Result Ids List
       by (Some files) (Ok ids) long lists cause named = absurd (not_too_much (files name) lists.text lists.has.there lists.has.short long)
       by (Some files) (Err load_list.Site) long lists cause named = inr (inl refl)
       by (Some files) (Err (load_list.TooLong given)) long lists cause named = inl named
-      by (Some files) (Err (load_list.Absent given)) long lists cause named = not_long (files name) cause long
+      by (Some files) (Err (load_list.Absent given)) long lists cause named = not_long most_text (files name) cause long
       by (Some files) (Err (load_list.NotId given number)) long lists cause named = absurd (not_too_much (files name) cause.text cause.has.there cause.has.short long)
       by (Some files) (Err load_list.NoMemory) long lists cause named = inr (inr refl)
 
@@ -146,6 +153,56 @@ module _ (name : List ℕ) (before after : Seen Files) (result : Result Ids List
       by (Some files) (Err (load_list.Absent given)) bad lists cause named = not_there (files name) bad.text cause bad.has.there
       by (Some files) (Err (load_list.NotId given line)) bad lists cause named = inl (named, same_line line files bad cause)
       by (Some files) (Err load_list.NoMemory) bad lists cause named = inr (inr refl)
+
+-- ---- a file of times
+
+module _ (name : List ℕ) (before after : Seen Files) (result : Result TimesById TimesRefusal) (reads : ReadsTimes name before after result) where
+  abbrev Timed : Option Files → Result TimesById TimesRefusal → Type 0
+  Timed told result = IfOk result (λ times. IfSome told (IsTimesFile name times))
+
+  abbrev Untimed : Option Files → Result TimesById TimesRefusal → Type 0
+  Untimed told result = IfErr result (λ refusal. IfSome told (HasTimesCause name refusal))
+
+  pub no_times : IsSomeAnd before.told (λ files. files name ≡ None) → IsTimesAbsent name result ⊎ TimesEnd result
+  no_times there = by before.told result there reads.times reads.refused reads.named
+    where
+      by : (told : Option Files) (result : Result TimesById TimesRefusal) → IsSomeAnd told (λ files. files name ≡ None) → Timed told result → Untimed told result → IfErr result (NamesTimes name) → IsTimesAbsent name result ⊎ TimesEnd result
+      by None result none gives cause named = absurd none
+      by (Some files) (Ok times) none gives cause named = not_there (files name) gives.bytes none gives.has.there
+      by (Some files) (Err times_file.Site) none gives cause named = inr (inl refl)
+      by (Some files) (Err (times_file.TooLong given)) none gives cause named = not_long MOST_TIMES (files name) none cause
+      by (Some files) (Err (times_file.Absent given)) none gives cause named = inl named
+      by (Some files) (Err (times_file.NotTimes given)) none gives cause named = not_there (files name) cause.bytes none cause.has.there
+      by (Some files) (Err times_file.NoMemory) none gives cause named = inr (inr refl)
+
+  pub times_too_long : IsSomeAnd before.told (HasTooManyTimes name) → IsTimesTooLong name result ⊎ TimesEnd result
+  times_too_long there = by before.told result there reads.times reads.refused reads.named
+    where
+      by : (told : Option Files) (result : Result TimesById TimesRefusal) → IsSomeAnd told (HasTooManyTimes name) → Timed told result → Untimed told result → IfErr result (NamesTimes name) → IsTimesTooLong name result ⊎ TimesEnd result
+      by None result long gives cause named = absurd long
+      by (Some files) (Ok times) long gives cause named = absurd (not_too_many (files name) gives.bytes gives.has.there gives.has.short long)
+      by (Some files) (Err times_file.Site) long gives cause named = inr (inl refl)
+      by (Some files) (Err (times_file.TooLong given)) long gives cause named = inl named
+      by (Some files) (Err (times_file.Absent given)) long gives cause named = not_long MOST_TIMES (files name) cause long
+      by (Some files) (Err (times_file.NotTimes given)) long gives cause named = absurd (not_too_many (files name) cause.bytes cause.has.there cause.has.short long)
+      by (Some files) (Err times_file.NoMemory) long gives cause named = inr (inr refl)
+
+  pub not_times : IsSomeAnd before.told (HasNoTimes name) → IsNotTimes name result ⊎ TimesEnd result
+  not_times there = by before.told result there reads.times reads.refused reads.named
+    where
+      of_form : (files : Files) (times : TimesById) → HasNoTimes name files → IsTimesFile name times files → ⊥
+      of_form files times bad gives =
+          let same : gives.bytes ≡ bad.bytes = same_text (files name) gives.bytes bad.bytes gives.has.there bad.has.there in
+          bad.other gives.covers times (subst (λ (bytes : List ℕ). IsTimesCache bytes gives.covers times) same gives.form)
+
+      by : (told : Option Files) (result : Result TimesById TimesRefusal) → IsSomeAnd told (HasNoTimes name) → Timed told result → Untimed told result → IfErr result (NamesTimes name) → IsNotTimes name result ⊎ TimesEnd result
+      by None result bad gives cause named = absurd bad
+      by (Some files) (Ok times) bad gives cause named = absurd (of_form files times bad gives)
+      by (Some files) (Err times_file.Site) bad gives cause named = inr (inl refl)
+      by (Some files) (Err (times_file.TooLong given)) bad gives cause named = absurd (not_too_many (files name) bad.bytes bad.has.there bad.has.short cause)
+      by (Some files) (Err (times_file.Absent given)) bad gives cause named = not_there (files name) bad.bytes cause bad.has.there
+      by (Some files) (Err (times_file.NotTimes given)) bad gives cause named = inl named
+      by (Some files) (Err times_file.NoMemory) bad gives cause named = inr (inr refl)
 
 -- ---- the table of processors
 
@@ -215,7 +272,7 @@ module _ (name : List ℕ) (before after : Seen Files) (result : Result Ids Patt
       by None result none lists cause named = absurd none
       by (Some files) (Ok ids) none lists cause named = not_there (files name) lists.text none lists.has.there
       by (Some files) (Err (pattern_list.List load_list.Site)) none lists cause named = inr (inl refl)
-      by (Some files) (Err (pattern_list.List (load_list.TooLong given))) none lists cause named = not_long (files name) none cause
+      by (Some files) (Err (pattern_list.List (load_list.TooLong given))) none lists cause named = not_long most_text (files name) none cause
       by (Some files) (Err (pattern_list.List (load_list.Absent given))) none lists cause named = inl named
       by (Some files) (Err (pattern_list.List (load_list.NotId given number))) none lists cause named = not_there (files name) cause.text none cause.has.there
       by (Some files) (Err (pattern_list.List load_list.NoMemory)) none lists cause named = inr (inr refl)
@@ -229,7 +286,7 @@ module _ (name : List ℕ) (before after : Seen Files) (result : Result Ids Patt
       by (Some files) (Ok ids) long lists cause named = absurd (not_too_much (files name) lists.text lists.has.there lists.has.short long)
       by (Some files) (Err (pattern_list.List load_list.Site)) long lists cause named = inr (inl refl)
       by (Some files) (Err (pattern_list.List (load_list.TooLong given))) long lists cause named = inl named
-      by (Some files) (Err (pattern_list.List (load_list.Absent given))) long lists cause named = not_long (files name) cause long
+      by (Some files) (Err (pattern_list.List (load_list.Absent given))) long lists cause named = not_long most_text (files name) cause long
       by (Some files) (Err (pattern_list.List (load_list.NotId given number))) long lists cause named = absurd (not_too_much (files name) cause.text cause.has.there cause.has.short long)
       by (Some files) (Err (pattern_list.List load_list.NoMemory)) long lists cause named = inr (inr refl)
       by (Some files) (Err (pattern_list.Bad line)) long lists cause named = absurd (not_too_much (files name) cause.text cause.has.there cause.has.short long)
@@ -305,6 +362,10 @@ not_broken finish status ended (inr broken) =
     let both : Exit status ≡ _ = sym ended ∙ broken in
     cc
 
+-- the child that comes next can't be read to its end, or not be waited for
+abbrev Broken : Output → Type 0
+Broken output = IsBroken output.finish
+
 abbrev Next : (Output → Type 0) → Spawning → Type 0
 Next Meets s = (output : Output) × (later : List Output) × (s.outputs ≡ output ∷ later) × Meets output
 
@@ -314,11 +375,7 @@ module _ (settings : Settings) (before after : Seen Spawning) (result : Result (
     where
       by : (x y : Option Spawning) (result : Result (Option ℕ) CallRefusal) → IsSomeAnd x (Next (TellsNone said)) → IfOk result (λ number. Goes x y (CallsSo settings number)) → IfErr result (λ refusal. Goes x y (HasCallCause settings refusal)) → (result ≡ Ok None → count_job_of settings ≡ None) → Comes (call.NoNumber said) call.Spawn call.NoMemory result
       by None y result next gives cause jobless = absurd next
-      by (Some s) y (Ok None) next gives cause jobless = absurd (some_job (count_job_of settings) some (jobless refl))
-        where
-          some_job : (job : Option Job) → IsSome job → job ≡ None → ⊥
-          some_job None some none = cc
-          some_job (Some job) some none = cc
+      by (Some s) y (Ok None) next gives cause jobless = absurd (none_or_some (count_job_of settings) (jobless refl) some)
       by (Some s) None (Ok (Some number)) next gives cause jobless = absurd gives
       by (Some s) (Some t) (Ok (Some number)) next gives cause jobless =
           let same : gives.output ≡ next.0 = first_is s t gives.job gives.output next.0 next.1 next.2 gives.started in
@@ -333,6 +390,24 @@ module _ (settings : Settings) (before after : Seen Spawning) (result : Result (
           let same : cause.output ≡ next.0 = first_is s t cause.job cause.output next.0 next.1 next.2 cause.started in
           let meets : TellsNone other next.0 = subst (TellsNone other) same cause.meets in
           inl (ap (λ (text : List ℕ). Err (call.NoNumber text)) (meets.says ∙ sym next.3.says))
+      by (Some s) y (Err call.NoMemory) next gives cause jobless = inr (inr refl)
+
+  pub count_broken : IsSome (count_job_of settings) → NextMeets Broken before → Comes call.Child call.Spawn call.NoMemory result
+  count_broken some next = by before.told after.told result next calls.told calls.refused calls.jobless
+    where
+      by : (x y : Option Spawning) (result : Result (Option ℕ) CallRefusal) → IsSomeAnd x (Next Broken) → IfOk result (λ number. Goes x y (CallsSo settings number)) → IfErr result (λ refusal. Goes x y (HasCallCause settings refusal)) → (result ≡ Ok None → count_job_of settings ≡ None) → Comes call.Child call.Spawn call.NoMemory result
+      by None y result next gives cause jobless = absurd next
+      by (Some s) y (Ok None) next gives cause jobless = absurd (none_or_some (count_job_of settings) (jobless refl) some)
+      by (Some s) None (Ok (Some number)) next gives cause jobless = absurd gives
+      by (Some s) (Some t) (Ok (Some number)) next gives cause jobless =
+          let same : gives.output ≡ next.0 = first_is s t gives.job gives.output next.0 next.1 next.2 gives.started in
+          absurd (not_broken gives.output.finish (pos 0) gives.meets.ended (subst Broken (sym same) next.3))
+      by (Some s) y (Err call.Spawn) next gives cause jobless = inr (inl refl)
+      by (Some s) y (Err call.Child) next gives cause jobless = inl refl
+      by (Some s) None (Err (call.NoNumber said)) next gives cause jobless = absurd cause
+      by (Some s) (Some t) (Err (call.NoNumber said)) next gives cause jobless =
+          let same : cause.output ≡ next.0 = first_is s t cause.job cause.output next.0 next.1 next.2 cause.started in
+          absurd (not_broken cause.output.finish cause.meets.status cause.meets.ended (subst Broken (sym same) next.3))
       by (Some s) y (Err call.NoMemory) next gives cause jobless = inr (inr refl)
 
 module _ (settings : Settings) (before after : Seen Spawning) (result : Result Ids ListingRefusal) (lists : ListsTests settings before after result) where
@@ -365,6 +440,24 @@ module _ (settings : Settings) (before after : Seen Spawning) (result : Result I
       by (Some s) (Some t) (Err (listing.Failed other text)) next gives cause jobless =
           let same : cause.output ≡ next.0 = first_is s t cause.job cause.output next.0 next.1 next.2 cause.started in
           inl (same_status other text next.0 next.3 (subst (HasFailed other text) same cause.meets))
+      by (Some s) y (Err listing.NoMemory) next gives cause jobless = inr (inr refl)
+
+  pub listing_broken : IsOk (list_job_of settings) → NextMeets Broken before → Comes listing.Child listing.Spawn listing.NoMemory result
+  listing_broken job next = by before.told after.told result next lists.listed lists.refused lists.jobless
+    where
+      by : (x y : Option Spawning) (result : Result Ids ListingRefusal) → IsSomeAnd x (Next Broken) → IfOk result (λ ids. Goes x y (ListsSo settings ids)) → IfErr result (λ refusal. Goes x y (HasListingCause settings refusal)) → (result ≡ Err listing.NoListOption → IsErr (list_job_of settings)) → Comes listing.Child listing.Spawn listing.NoMemory result
+      by None y result next gives cause jobless = absurd next
+      by (Some s) None (Ok ids) next gives cause jobless = absurd gives
+      by (Some s) (Some t) (Ok ids) next gives cause jobless =
+          let same : gives.output ≡ next.0 = first_is s t gives.job gives.output next.0 next.1 next.2 gives.started in
+          absurd (not_broken gives.output.finish (pos 0) gives.ended (subst Broken (sym same) next.3))
+      by (Some s) y (Err listing.NoListOption) next gives cause jobless = absurd (not_ok (list_job_of settings) job (jobless refl))
+      by (Some s) y (Err listing.Spawn) next gives cause jobless = inr (inl refl)
+      by (Some s) y (Err listing.Child) next gives cause jobless = inl refl
+      by (Some s) None (Err (listing.Failed status said)) next gives cause jobless = absurd cause
+      by (Some s) (Some t) (Err (listing.Failed status said)) next gives cause jobless =
+          let same : cause.output ≡ next.0 = first_is s t cause.job cause.output next.0 next.1 next.2 cause.started in
+          absurd (not_broken cause.output.finish status cause.meets.ended (subst Broken (sym same) next.3))
       by (Some s) y (Err listing.NoMemory) next gives cause jobless = inr (inr refl)
 
 -- ---- the jobs

@@ -128,7 +128,7 @@ further_place (further.Times refusal) = times_place TimesById refusal
 
 -- ---- why it refuses
 
-not_too_many : (file : Option (List ℕ)) (bytes : List ℕ) → file ≡ Some bytes → length bytes ≤ MOST_TIMES → IsSomeAnd file (λ b. MOST_TIMES < length b) → ⊥
+pub not_too_many : (file : Option (List ℕ)) (bytes : List ℕ) → file ≡ Some bytes → length bytes ≤ MOST_TIMES → IsSomeAnd file (λ b. MOST_TIMES < length b) → ⊥
 not_too_many None bytes there short long = long
 not_too_many (Some given) bytes there short long =
     let same : given ≡ bytes = cc in

@@ -10,6 +10,8 @@ use Rattle.suite_plan.specs.declared.pattern_list.PatternListRefusal.{PatternLis
 use Rattle.suite_plan.specs.declared.pattern_list.PatternListRefusal.TheVariants.{List as Unlisted, Bad}
 use Rattle.suite_plan.specs.declared.load_list.ListRefusal.{ListRefusal}
 use Rattle.suite_plan.specs.declared.load_list.ListRefusal.TheVariants.{Site, TooLong, Absent, NotId, NoMemory}
+use Rattle.command_steps.specs.declared.times_file.TimesRefusal.{TimesRefusal}
+use Rattle.command_steps.specs.declared.times_file.TimesRefusal.TheVariants as times_file
 
 -- this refusal comes, unless a call failed or memory was wanting
 abbrev pub Comes : {T E : Type 0} → (named failed short : E) → Result T E → Type 0
@@ -87,3 +89,36 @@ abbrev pub IsBadLine : {T : Type 0} → List ℕ → ℕ → (pattern : List ℕ
 IsBadLine name number pattern (Ok value) = ⊥
 IsBadLine name number pattern (Err (Unlisted refusal)) = ⊥
 IsBadLine name number pattern (Err (Bad line)) = (line.name.now ≡ name) × (line.number ≡ number) × (line.pattern ≡ pattern)
+
+-- ---- a file of times, whose refusals name it, too
+
+-- a read of the file failed, or memory was wanting
+abbrev pub TimesEnd : {T : Type 0} → Result T TimesRefusal → Type 0
+TimesEnd result = (result ≡ Err times_file.Site) ⊎ (result ≡ Err times_file.NoMemory)
+
+-- the file of this name was refused as one that is missing
+abbrev pub IsTimesAbsent : {T : Type 0} → List ℕ → Result T TimesRefusal → Type 0
+IsTimesAbsent name (Ok value) = ⊥
+IsTimesAbsent name (Err times_file.Site) = ⊥
+IsTimesAbsent name (Err (times_file.TooLong given)) = ⊥
+IsTimesAbsent name (Err (times_file.Absent given)) = given.now ≡ name
+IsTimesAbsent name (Err (times_file.NotTimes given)) = ⊥
+IsTimesAbsent name (Err times_file.NoMemory) = ⊥
+
+-- it was refused as one that is too long
+abbrev pub IsTimesTooLong : {T : Type 0} → List ℕ → Result T TimesRefusal → Type 0
+IsTimesTooLong name (Ok value) = ⊥
+IsTimesTooLong name (Err times_file.Site) = ⊥
+IsTimesTooLong name (Err (times_file.TooLong given)) = given.now ≡ name
+IsTimesTooLong name (Err (times_file.Absent given)) = ⊥
+IsTimesTooLong name (Err (times_file.NotTimes given)) = ⊥
+IsTimesTooLong name (Err times_file.NoMemory) = ⊥
+
+-- it was refused as one of another form
+abbrev pub IsNotTimes : {T : Type 0} → List ℕ → Result T TimesRefusal → Type 0
+IsNotTimes name (Ok value) = ⊥
+IsNotTimes name (Err times_file.Site) = ⊥
+IsNotTimes name (Err (times_file.TooLong given)) = ⊥
+IsNotTimes name (Err (times_file.Absent given)) = ⊥
+IsNotTimes name (Err (times_file.NotTimes given)) = given.now ≡ name
+IsNotTimes name (Err times_file.NoMemory) = ⊥

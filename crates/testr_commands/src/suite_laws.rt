@@ -14,6 +14,7 @@ ghost use Rattle.suite_causes.specs.Searching.{Searches, probe_job};
 ghost use Rattle.suite_causes.specs.declared.cause_search.SearchFault.{SearchFault as ASearchFault};
 ghost use Rattle.suite_causes.specs.declared.cause_search.SearchFault.TheVariants as search_fault;
 ghost use Rattle.suite_plan.specs.Calling.{CallsOut, TellsNone};
+ghost use Rattle.suite_plan.specs.Children.{IsBroken};
 ghost use Rattle.suite_plan.specs.Choosing.{Ids};
 ghost use Rattle.testr_words.specs.Suites.{Project};
 ghost use Rattle.suite_plan.specs.ConfFile.{ReadsConf, conf_in};
@@ -41,8 +42,10 @@ ghost use Rattle.testr_conf.specs.Jobs.{count_job_of, list_job_of};
 ghost use Rattle.testr_conf.specs.Settings.{Settings};
 ghost use Rattle.testr_conf.specs.declared.fault.JobFault.{JobFault as AJobFault};
 ghost use Rattle.testr_conf.specs.declared.fault.JobFault.TheVariants as job;
-ghost use Rattle.testr_commands.specs.ExactSuite.{Comes, NextMeets, IsNamedBad, ListEnds, IsListAbsent, IsListTooLong, IsNoId, PatternsEnd, IsPatternsAbsent, IsPatternsTooLong, IsNoText, IsBadLine};
-ghost use Rattle.command_steps.specs.Selecting.{HandsIds, MakesJobs, NamesIds, ids_of_shares};
+ghost use Rattle.testr_commands.specs.ExactSuite.{Comes, NextMeets, IsNamedBad, ListEnds, IsListAbsent, IsListTooLong, IsNoId, PatternsEnd, IsPatternsAbsent, IsPatternsTooLong, IsNoText, IsBadLine, TimesEnd, IsTimesAbsent, IsTimesTooLong, IsNotTimes};
+ghost use Rattle.command_steps.specs.Selecting.{HandsIds, MakesJobs, NamesIds, TimesById, ids_of_shares};
+ghost use Rattle.command_steps.specs.TimesFile.{HasNoTimes, HasTooManyTimes, ReadsTimes};
+ghost use Rattle.command_steps.specs.declared.times_file.TimesRefusal.{TimesRefusal as ATimesRefusal};
 
 /// Where the cause of a named refusal of a step of `run` or `list-tests` is there, the step refuses by that name, unless a
 /// call failed or memory was wanting before. That it comes only there is what the step itself says. So each comes exactly
@@ -68,14 +71,24 @@ pub fn suite_refusals_are_exact()
         → (number : ℕ) → IsSomeAnd before.told (HasOtherLine name number) → IsNoText name number result ⊎ PatternsEnd result }
     ensures bad_line { (name : List ℕ) (before after : Seen Files) (result : Result Ids APatternListRefusal) → ReadsPatternList name before after result
         → (number : ℕ) (pattern : List ℕ) → IsSomeAnd before.told (HasBadLine name number pattern) → IsBadLine name number pattern result ⊎ PatternsEnd result }
+    ensures no_times { (name : List ℕ) (before after : Seen Files) (result : Result TimesById ATimesRefusal) → ReadsTimes name before after result
+        → IsSomeAnd before.told (λ files. files name ≡ None) → IsTimesAbsent name result ⊎ TimesEnd result }
+    ensures times_too_long { (name : List ℕ) (before after : Seen Files) (result : Result TimesById ATimesRefusal) → ReadsTimes name before after result
+        → IsSomeAnd before.told (HasTooManyTimes name) → IsTimesTooLong name result ⊎ TimesEnd result }
+    ensures not_times { (name : List ℕ) (before after : Seen Files) (result : Result TimesById ATimesRefusal) → ReadsTimes name before after result
+        → IsSomeAnd before.told (HasNoTimes name) → IsNotTimes name result ⊎ TimesEnd result }
     ensures table_too_long { (before after : Seen Files) (result : Result ℕ ATableRefusal) → CountsProcessors before after result
         → IsSomeAnd before.told (λ files. HasTooMuch files table_name) → Comes table.TooLong table.Site table.NoMemory result }
     ensures bad_number { (settings : Settings) (before after : Seen Spawning) (result : Result (Option ℕ) ACallRefusal) → CallsOut settings before after result
         → (said : List ℕ) → IsSome (count_job_of settings) → NextMeets (TellsNone said) before → Comes (call.NoNumber said) call.Spawn call.NoMemory result }
+    ensures count_broken { (settings : Settings) (before after : Seen Spawning) (result : Result (Option ℕ) ACallRefusal) → CallsOut settings before after result
+        → IsSome (count_job_of settings) → NextMeets (λ output. IsBroken output.finish) before → Comes call.Child call.Spawn call.NoMemory result }
     ensures no_list_option { (settings : Settings) (before after : Seen Spawning) (result : Result Ids AListingRefusal) → ListsTests settings before after result
         → IsErr (list_job_of settings) → (result ≡ Err listing.NoListOption) ⊎ (result ≡ Err listing.NoMemory) }
     ensures listing_failed { (settings : Settings) (before after : Seen Spawning) (result : Result Ids AListingRefusal) → ListsTests settings before after result
         → (status : ℤ) (said : List ℕ) → IsOk (list_job_of settings) → NextMeets (HasFailed status said) before → Comes (listing.Failed status said) listing.Spawn listing.NoMemory result }
+    ensures listing_broken { (settings : Settings) (before after : Seen Spawning) (result : Result Ids AListingRefusal) → ListsTests settings before after result
+        → IsOk (list_job_of settings) → NextMeets (λ output. IsBroken output.finish) before → Comes listing.Child listing.Spawn listing.NoMemory result }
     ensures long_id { (shares : Option (List Ids)) (result : Result (Unit {0}) ALongId) → NamesIds shares result
         → (AreAllShort (ids_of_shares shares) → ⊥) → IsErr result }
     ensures no_option { (settings : Settings) (shares : Option (List Ids)) (fault : AJobFault) (result : Result (List AJob) AJobFault) → MakesJobs settings shares result

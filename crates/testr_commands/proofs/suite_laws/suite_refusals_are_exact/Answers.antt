@@ -19,11 +19,17 @@ returns-clause-table_too_long c = exact.table_too_long
 pub returns-clause-bad_number : goal.returns-clause-bad_number
 returns-clause-bad_number c = exact.bad_number
 
+pub returns-clause-count_broken : goal.returns-clause-count_broken
+returns-clause-count_broken c = exact.count_broken
+
 pub returns-clause-no_list_option : goal.returns-clause-no_list_option
 returns-clause-no_list_option c = exact.no_list_option
 
 pub returns-clause-listing_failed : goal.returns-clause-listing_failed
 returns-clause-listing_failed c = exact.listing_failed
+
+pub returns-clause-listing_broken : goal.returns-clause-listing_broken
+returns-clause-listing_broken c = exact.listing_broken
 
 pub returns-clause-long_id : goal.returns-clause-long_id
 returns-clause-long_id c = exact.long_id
@@ -54,3 +60,12 @@ returns-clause-no_text c = exact.no_text
 
 pub returns-clause-bad_line : goal.returns-clause-bad_line
 returns-clause-bad_line c = exact.bad_line
+
+pub returns-clause-no_times : goal.returns-clause-no_times
+returns-clause-no_times c = exact.no_times
+
+pub returns-clause-times_too_long : goal.returns-clause-times_too_long
+returns-clause-times_too_long c = exact.times_too_long
+
+pub returns-clause-not_times : goal.returns-clause-not_times
+returns-clause-not_times c = exact.not_times
