@@ -33,14 +33,14 @@ use Rattle.std.proofs.lemmas.Bool.{cases_lt}
 
 -- ---- causes exclude each other
 
-no_format : (files : Files) → files format_name ≡ None → HasFormat files → ⊥
+pub no_format : (files : Files) → files format_name ≡ None → HasFormat files → ⊥
 no_format files none (inl format) = cc
 no_format files none (inr format) = cc
 
-no_other : (files : Files) → files format_name ≡ None → HasOtherFormat files → ⊥
+pub no_other : (files : Files) → files format_name ≡ None → HasOtherFormat files → ⊥
 no_other files none (bytes, there, first, second) = cc
 
-two_formats : (files : Files) → HasOtherFormat files → HasFormat files → ⊥
+pub two_formats : (files : Files) → HasOtherFormat files → HasFormat files → ⊥
 two_formats files other format = other_or_format files other format
 
 no_gap : (files : Files) (number : ℕ) → IsGap files number → IsRepository files → ⊥
@@ -72,7 +72,7 @@ same_files s t kinds look =
     let is : t.disk.published ≡ s.disk.published = ap (λ (f : Folder). f.disk.published) look.settled in
     subst IsRepository is look.fits.repository
 
-look_of : (told after : Option Folder) (s : Folder) → told ≡ Some s → (P : Folder → Type 0) (step : Folder → Folder → Type 0) → Goes told after step → ((t : Folder) → step s t → P s) → P s
+pub look_of : (told after : Option Folder) (s : Folder) → told ≡ Some s → (P : Folder → Type 0) (step : Folder → Folder → Type 0) → Goes told after step → ((t : Folder) → step s t → P s) → P s
 look_of None after s is P step goes each = absurd (cc)
 look_of (Some a) None s is P step goes each = absurd goes
 look_of (Some a) (Some t) s is P step goes each =
@@ -124,7 +124,7 @@ bad_base_of files (Err (open_fault.Gap number)) format bad cause = absurd (bad_o
 bad_base_of files (Err (open_fault.Shelf call)) format bad cause = inr tt
 bad_base_of files (Err open_fault.NoMemory) format bad cause = inr tt
 
-at_told : (told : Option Folder) (P : Folder → Type 0) (Q : Type 0) → IsSomeAnd told P → ((s : Folder) → told ≡ Some s → P s → Q) → Q
+pub at_told : (told : Option Folder) (P : Folder → Type 0) (Q : Type 0) → IsSomeAnd told P → ((s : Folder) → told ≡ Some s → P s → Q) → Q
 at_told None P Q holds each = absurd holds
 at_told (Some s) P Q holds each = each s refl holds
 

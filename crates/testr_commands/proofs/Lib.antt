@@ -47,4 +47,5 @@ pub mod RunLemmas
 pub mod SaidLemmas
 mod ExactLemmas
 mod ExactFiles
+mod ExactUpgrade
 mod ExactSuite

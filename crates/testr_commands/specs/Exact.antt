@@ -4,6 +4,8 @@ use Rattle.run_shelf.specs.declared.faults.InitFault.{InitFault}
 use Rattle.run_shelf.specs.declared.faults.InitFault.TheVariants as init_fault
 use Rattle.run_shelf.specs.declared.faults.OpenFault.{OpenFault}
 use Rattle.run_shelf.specs.declared.faults.OpenFault.TheVariants as open_fault
+use Rattle.old_upgrade.specs.declared.faults.UpgradeFault.{UpgradeFault}
+use Rattle.old_upgrade.specs.declared.faults.UpgradeFault.TheVariants as upgrade_fault
 use Rattle.command_steps.specs.declared.input_recorder.RecordFault.{RecordFault}
 use Rattle.command_steps.specs.declared.input_recorder.RecordFault.TheVariants as record_fault
 
@@ -55,3 +57,15 @@ IsFileTooLong name (Err record_fault.Site) = ⊥
 IsFileTooLong name (Err (record_fault.NoFile given)) = ⊥
 IsFileTooLong name (Err (record_fault.FileTooLong given)) = given.now ≡ name
 IsFileTooLong name (Err record_fault.NoMemory) = ⊥
+
+-- a call of the folder failed while it was upgraded, or memory was wanting
+abbrev pub UpgradeEnds : {T : Type 0} → Result T UpgradeFault → Type 0
+UpgradeEnds (Ok value) = ⊥
+UpgradeEnds (Err upgrade_fault.NoStore) = ⊥
+UpgradeEnds (Err upgrade_fault.NotOld) = ⊥
+UpgradeEnds (Err upgrade_fault.UnknownFormat) = ⊥
+UpgradeEnds (Err upgrade_fault.BadCount) = ⊥
+UpgradeEnds (Err (upgrade_fault.BadRun number)) = ⊥
+UpgradeEnds (Err upgrade_fault.BadFailing) = ⊥
+UpgradeEnds (Err (upgrade_fault.Shelf call)) = ⊤
+UpgradeEnds (Err upgrade_fault.NoMemory) = ⊤

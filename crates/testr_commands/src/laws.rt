@@ -11,13 +11,17 @@ ghost use Rattle.run_shelf.specs.declared.faults.OpenFault.TheVariants.{NoStore,
 ghost use Rattle.run_shelf.specs.declared.found.Found.{Found as AFound};
 ghost use Rattle.run_shelf.specs.Repository.{format_name, HasFormat, HasOtherFormat, HasBadBase, IsGap, most_runs};
 ghost use Rattle.testr_words.specs.declared.command.Question.{Question as AQuestion};
+ghost use Rattle.old_folder.specs.Looking.{HasStrangeFormat, LacksCount};
+ghost use Rattle.old_upgrade.specs.Upgrading.{HasBadRun, HasBadFailing};
+ghost use Rattle.old_upgrade.specs.declared.faults.UpgradeFault.{UpgradeFault as AnUpgradeFault};
+ghost use Rattle.old_upgrade.specs.declared.faults.UpgradeFault.TheVariants as upgrade_fault;
 ghost use Rattle.command_steps.specs.declared.input_recorder.RecordFault.{RecordFault as ARecordFault};
 ghost use Rattle.command_steps.specs.declared.input_recorder.RecordFault.TheVariants.{TooLong};
 ghost use Rattle.command_steps.specs.declared.store.RunsFault.{RunsFault as ARunsFault};
 ghost use Rattle.command_steps.specs.declared.store.RunsFault.TheVariants.{Full, NoRuns};
 ghost use Rattle.command_steps.specs.declared.question_answers.TellFault.{TellFault as ATellFault};
 ghost use Rattle.command_steps.specs.declared.question_answers.TellFault.TheVariants.{Shelf as CachesShelf};
-ghost use Rattle.testr_commands.specs.Exact.{InitEnds, OpenEnds, RecordEnds, IsNoFile, IsFileTooLong};
+ghost use Rattle.testr_commands.specs.Exact.{InitEnds, OpenEnds, RecordEnds, IsNoFile, IsFileTooLong, UpgradeEnds};
 ghost use Rattle.command_steps.specs.Files.{RecordsFiles};
 ghost use Rattle.command_steps.specs.Outside.{Fed, Filed};
 ghost use Rattle.command_steps.specs.Recording.{Records};
@@ -32,6 +36,7 @@ ghost use Rattle.command_steps.specs.declared.answer.Verdict.{Verdict as AVerdic
 ghost use Rattle.testr_commands.specs.Program.{Tells};
 ghost use Rattle.testr_commands.specs.Spoken.{outcome_text};
 ghost use Rattle.command_steps.specs.Store.{Makes, Opens, TakesRun, HasRunFor};
+ghost use Rattle.command_steps.specs.Upgrading.{UpgradesFolder};
 
 /// Where the cause of a named refusal is there, the step refuses by that name, unless a call failed or memory was wanting
 /// before. That it comes only there is what the step itself says. So each comes exactly where its cause is. Where the
@@ -57,6 +62,23 @@ pub fn refusals_are_exact()
         → IsSomeAnd before.site.told (λ files. All (λ n. IsSomeAnd (files n) (λ bytes. length bytes ≤ most_bytes)) front × (files name ≡ None)) → IsNoFile name result ⊎ RecordEnds result }
     ensures file_too_long { (front back : List (List ℕ)) (name : List ℕ) (before after : Filed) (result : Result (List ARow) ARecordFault) → RecordsFiles (front ++ name ∷ back) before after result
         → IsSomeAnd before.site.told (λ files. All (λ n. IsSomeAnd (files n) (λ bytes. length bytes ≤ most_bytes)) front × IsSomeAnd (files name) (λ bytes. most_bytes < length bytes)) → IsFileTooLong name result ⊎ RecordEnds result }
+{}
+
+/// The same of an upgrade. Where the folder holds the cause of a named refusal, the step refuses by that name, unless a call
+/// of the folder failed or memory was wanting. Of runs that are damaged it names the first.
+pub fn upgrade_refusals_are_exact()
+    ensures no_repository { (before after : Seen Folder) (result : Result ℕ AnUpgradeFault) → UpgradesFolder before after result
+        → IsSomeAnd before.told (λ s. s.disk.published format_name ≡ None) → (result ≡ Err upgrade_fault.NoStore) ⊎ UpgradeEnds result }
+    ensures not_old { (before after : Seen Folder) (result : Result ℕ AnUpgradeFault) → UpgradesFolder before after result
+        → IsSomeAnd before.told (λ s. HasFormat s.disk.published) → (result ≡ Err upgrade_fault.NotOld) ⊎ UpgradeEnds result }
+    ensures unknown_format { (before after : Seen Folder) (result : Result ℕ AnUpgradeFault) → UpgradesFolder before after result
+        → IsSomeAnd before.told (λ s. HasStrangeFormat s.disk.published) → (result ≡ Err upgrade_fault.UnknownFormat) ⊎ UpgradeEnds result }
+    ensures bad_count { (before after : Seen Folder) (result : Result ℕ AnUpgradeFault) → UpgradesFolder before after result
+        → IsSomeAnd before.told (λ s. LacksCount s.disk.published) → (result ≡ Err upgrade_fault.BadCount) ⊎ UpgradeEnds result }
+    ensures bad_run { (before after : Seen Folder) (result : Result ℕ AnUpgradeFault) → UpgradesFolder before after result
+        → (number : ℕ) → IsSomeAnd before.told (λ s. HasBadRun number s.disk.published) → (result ≡ Err (upgrade_fault.BadRun number)) ⊎ UpgradeEnds result }
+    ensures bad_failing { (before after : Seen Folder) (result : Result ℕ AnUpgradeFault) → UpgradesFolder before after result
+        → IsSomeAnd before.told (λ s. HasBadFailing s.disk.published) → (result ≡ Err upgrade_fault.BadFailing) ⊎ UpgradeEnds result }
 {}
 
 /// What was said while a run went on, and then what is told of the outcome, went to the errors' sink, one behind the other, where

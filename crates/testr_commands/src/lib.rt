@@ -39,7 +39,7 @@ pub use command_steps::{
     CopyFault, KeepFault, PrintFault, RecordFault, Refusal, RunsFault, TellFault, UsageFault,
     Verdict,
 };
-pub use laws::{refusals_are_exact, refusals_stand_behind_lines};
+pub use laws::{refusals_are_exact, refusals_stand_behind_lines, upgrade_refusals_are_exact};
 pub use single_thread::quiet;
 pub use suite_laws::suite_refusals_are_exact;
 pub use testr_call::{testr, testr_as};
