@@ -35,3 +35,4 @@ pub mod V1Prefix
 pub mod V1TextLemmas
 pub mod SeparatorLemmas
 pub mod JunitCaseLemmas
+mod LongLemmas

@@ -1,6 +1,7 @@
-//! Laws of what filters write.
+//! Laws of what filters write and refuse.
 
-ghost use Rattle.std.specs.Prelude.{◌≡◌, ◌++◌, ◌≤◌, ℕ, List};
+ghost use Rattle.std.specs.Prelude.{◌≡◌, ◌⊎◌, ◌++◌, ◌<◌, ◌≤◌, ℕ, None, IsSomeAnd, List, length};
+ghost use Rattle.edge_io.specs.Limits.{most_bytes};
 ghost use Rattle.packet_codec.specs.Grammar.{AreBytes};
 ghost use Rattle.stream_reader.specs.declared.note.Note.{Note};
 ghost use Rattle.tap_bridge.specs.Texts.{tap_text};
@@ -14,7 +15,10 @@ ghost use Rattle.filter_cli.specs.Stats.{stats_plan};
 ghost use Rattle.v1_bridge.specs.Writing.{v1_text};
 ghost use Rattle.filter_cli.specs.TapRows.{tap_rows, tap_plan};
 ghost use Rattle.filter_cli.specs.V1Parts.{v1_plan};
-ghost use Rattle.filter_cli.specs.Streams.{AsksFor, IsSeenBy, IsFilteredBy};
+ghost use Rattle.filter_cli.specs.Outside.{FilterOutside};
+ghost use Rattle.filter_cli.specs.Promises.{feed_of, FilterPromises};
+ghost use Rattle.filter_cli.specs.Streams.{AsksFor, IsSeenBy, IsFilteredBy, text_unread};
+ghost use Rattle.filter_cli.specs.Words.{asked_by_words, input_file_in};
 
 /// Laws of what filters write of all streams.
 pub fn filtered_streams()
@@ -48,4 +52,11 @@ pub fn streams_as_events()
     // The text of the other, and its status.
     ensures counted { (counting : Counting) (notes : List Note) → given_by (stats_plan counting) (as_events notes) ++ (stats_plan counting).at_end (as_events notes) ≡ given_by (stats_plan counting) notes ++ (stats_plan counting).at_end notes }
     ensures counted_status { (counting : Counting) (notes : List Note) → (stats_plan counting).status (as_events notes) ≡ (stats_plan counting).status notes }
+{}
+
+/// Where the words ask for a filter that reads, and what it reads is told and too long, it is refused: by status 3, unless a call
+/// failed or memory was wanting.
+pub fn too_long_is_refused()
+    ensures refused { (words : List (List ℕ)) (before after : FilterOutside) (answer : ℕ) → FilterPromises words before after answer → (asked_by_words words ≡ None → ⊥) → text_unread words ≡ None
+        → IsSomeAnd (feed_of (input_file_in words) 0 before).input.told (λ bytes. most_bytes < length bytes) → (answer ≡ 3) ⊎ ((answer ≡ 4) ⊎ (answer ≡ 5)) }
 {}

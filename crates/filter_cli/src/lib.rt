@@ -15,7 +15,7 @@
 //! - `v1_filter`, `v1_pump`, `subunit_to_v1`: lines of version 1 as packets, and tests as such lines
 //! - `attached_file`: the events that words ask for, with the input as a file
 //! - `named_input`, `file_loop`: all of them over a file by its name, in place of the input
-//! - `event_laws`, `laws`: what filters write of all streams
+//! - `event_laws`, `laws`: what filters write of all streams, and that what is too long is refused
 //!
 //! Its tests stand in a room above it, `filter_trials`.
 #![tactic(auto)]
@@ -68,7 +68,7 @@ pub use file_loop::{FileFault, pump_file};
 pub use filter::{Filter, StreamEnd};
 pub use filters_call::filters;
 pub use head_text::FilterBelowText;
-pub use laws::{filtered_streams, lines_of_streams, streams_as_events};
+pub use laws::{filtered_streams, lines_of_streams, streams_as_events, too_long_is_refused};
 pub use ls::Listing;
 pub use note_pump::pump_notes;
 pub use notes::NoteFilter;
