@@ -30,6 +30,7 @@ pub mod SuiteNever
 pub mod KeepLemmas
 pub mod SuiteQuiet
 pub mod SuiteKeeps
+pub mod StoredLaws
 pub mod SuiteReach
 pub mod SuiteLeaves
 pub mod SuiteLaws

@@ -1,5 +1,5 @@
 -- What a command has printed at each exit, from its chain.
-use Rattle.std.proofs.Common.{◌≡◌, ◌⊎◌, inl, inr, ℕ, ◌<◌, ◌≤◌, ◌-◌, Bool, true, Option, None, Some, IfSome, Result, Ok, Err, List, [], ◌++◌, length, length-append, take, refl, sym, ap, subst, ◌∙◌, arith}
+use Rattle.std.proofs.Common.{◌≡◌, ◌⊎◌, inl, inr, ℕ, ◌<◌, ◌≤◌, ◌-◌, Bool, true, false, Option, None, Some, IfSome, Result, Ok, Err, List, [], ◌++◌, length, length-append, take, refl, sym, ap, subst, ◌∙◌, arith}
 use Rattle.std.specs.Prelude.{IsSomeAnd}
 use Rattle.std.proofs.Math.Seq.{take-length, take-append_seam}
 use Rattle.std.specs.Io.KnownBytes.{Appends}
@@ -15,10 +15,13 @@ use Rattle.sub_text.specs.Texts.{summary_text}
 use Rattle.suite_plan.specs.Listing.{ListsSo}
 use Rattle.testr_words.specs.Suites.{ListOptions, LoadOptions}
 use Rattle.testr_commands.specs.Ask.{CopiesLast, PrintsAnswer, AnswersOf, Asks}
-use Rattle.command_steps.specs.Copying.{BeginsAt, CopiesRun}
+use Rattle.command_steps.specs.Copying.{BeginsAt, CopiesRun, copy_refusal}
 use Rattle.testr_commands.specs.Load.{Loads}
 use Rattle.command_steps.specs.Outside.{Work, Shown, work_out, shown_out}
+use Rattle.testr_commands.specs.Answer.{is_copied, may_have_printed}
 use Rattle.testr_commands.specs.Printed.{PrintsOfLoad, PrintsOfAnswer, PrintsOfListing}
+use Rattle.testr_commands.specs.Upgrade.{UpgradesAll}
+use Rattle.testr_words.specs.Tasks.{ask}
 use Rattle.command_steps.specs.Reporting.{Prints}
 use Rattle.testr_commands.specs.RunSuite.{ListsSuite}
 use Rattle.command_steps.specs.Says.{SaysOfFolder}
@@ -28,6 +31,8 @@ use Rattle.command_steps.specs.Steps.{Step, Then, stops, goes_on, Still, Gives, 
 use Rattle.command_steps.specs.Store.{HasRunFor}
 use Rattle.command_steps.specs.declared.store.RunsFault.{RunsFault}
 use Rattle.command_steps.specs.declared.run_copy.CopyFault.{CopyFault}
+use Rattle.command_steps.specs.declared.run_copy.CopyFault.TheVariants as copy_fault
+use Rattle.command_steps.specs.declared.run_report.PrintFault.{PrintFault}
 use Rattle.command_steps.specs.declared.answer.Refusal.{Refusal}
 use Rattle.command_steps.specs.declared.answer.Refusal.TheVariants.{Print}
 use Rattle.command_steps.specs.declared.answer.Verdict.{Verdict}
@@ -57,6 +62,11 @@ then_printed {X = X} out a b result silent next (goes_on v m step rest) = by (ne
     by : (out b ≡ out m) ⊎ X → (out b ≡ out a) ⊎ X
     by (inl same) = inl (same ∙ silent (Ok v) m step)
     by (inr x) = inr x
+
+-- the step that prints refuses, or it was done
+then_may : {W A : Type 0} (copied : Bool) {first : Step W A PrintFault} (v : Verdict) (m b : W) (result : Result Verdict Refusal) → Then Print first (λ _. Gives v) m b result → may_have_printed copied result ≡ true
+then_may copied v m b result (stops fault is step) = ap (may_have_printed copied) is
+then_may copied v m b result (goes_on _ n step gives) = ap (may_have_printed copied) gives.answer
 
 -- the sink that takes a text has taken some of its first bytes, whatever comes behind that
 pub printed_part : (text : List ℕ) (v : Verdict) (m b : Work) (result : Result Verdict Refusal) → Then Print (At work_out (Prints text)) (λ _. Gives v) m b result → AppendsPrefix m.out.told b.out.told text
@@ -94,6 +104,19 @@ load_prints options names a b result loads =
       printed = prefix_rows options.partial options.format all.number [] all.events report a.folder.told m.folder.told a.out.told b.out.told all.kept all.says
           (part_as a.out.told m.out.told b.out.told report.text report.text all.out refl (printed_part report.text report.verdict m b result printed));
     }))))))))
+    loads
+
+-- nothing was printed, unless a step refused that may have
+pub load_silent : (options : LoadOptions) (names : List (List ℕ)) (a b : Work) (result : Result Verdict Refusal) → Loads options names a b result → (b.out.told ≡ a.out.told) ⊎ (may_have_printed false result ≡ true)
+load_silent options names a b result loads =
+    then_printed out_of a b result (λ r m s i. (s.rest i).out.told) (λ found o opened.
+    then_printed out_of o b result (λ r m s i. (s.same i).out.told) (λ _ t took.
+    then_printed out_of t b result (λ r m s i. (s.rest i).out.told) (λ _ g begun.
+    then_printed out_of g b result (λ r m s. out_stays names r g m s) (λ rows r read.
+    then_printed out_of r b result (λ x m s i. (s.same i).out.told) (λ report e told.
+    then_printed out_of e b result (λ x m s i. (s.rest i).out.told) (λ _ k kept.
+    then_printed out_of k b result (λ x m s i. (s.rest i).out.told) (λ _ m refreshed printed.
+    inr (then_may false report.verdict m b result printed))))))))
     loads
 
 -- ---- questions
@@ -196,6 +219,29 @@ module _ (question : Question) (site : Seen Files) (spawner : Seen Spawning) (in
       from_had found o t (λ i. (opened.rest i).out.told) (surveyed_fits (kinds_of found) a.folder.told o.folder.told opened.at.found) had answers))
       asks
 
+-- nothing was printed, unless a step refused that may have
+copy_may : (found : Found) (m b : Shown) (result : Result Verdict Refusal) → CopiesLast found m b result → may_have_printed true result ≡ true
+copy_may found m b result (stops fault is copies) = ap (may_have_printed true) is ∙ by fault
+  where
+    by : (fault : CopyFault) → may_have_printed true (Err (copy_refusal fault)) ≡ true
+    by (copy_fault.Read why) = refl
+    by (copy_fault.Write why) = refl
+copy_may found m b result (goes_on v n copies gives) = ap (may_have_printed true) gives.answer
+
+pub ask_silent : (question : Question) (a b : Shown) (result : Result Verdict Refusal) → Asks question a b result → (b.out.told ≡ a.out.told) ⊎ (may_have_printed (is_copied (Some (ask question))) result ≡ true)
+ask_silent question a b result asks =
+    then_printed shown_out_of a b result (λ r m s i. (s.rest i).out.told) (λ found o opened.
+    then_printed shown_out_of o b result (λ r m s i. (s.same i).out.told) (λ _ t had answers.
+    by found t (either found t b result question answers)))
+    asks
+  where
+    by : (found : Found) (t : Shown) → ((question ≡ Last true) × CopiesLast found t b result) ⊎ PrintsAnswer question t b result → (b.out.told ≡ t.out.told) ⊎ (may_have_printed (is_copied (Some (ask question))) result ≡ true)
+    by found t (inl (is, copies)) = inr (subst (λ (q : Question). may_have_printed (is_copied (Some (ask q))) result ≡ true) (sym is) (copy_may found t b result copies))
+    by found t (inr prints) =
+        then_printed shown_out_of t b result (λ r n s i. (s.rest i).out.told) (λ told n found printed.
+        inr (then_may (is_copied (Some (ask question))) told.verdict n b result printed))
+        prints
+
 -- ---- `list-tests`
 
 children_left : (text : List ℕ) (v : Verdict) (m b : Work) (result : Result Verdict Refusal) → Then Print (At work_out (Prints text)) (λ _. Gives v) m b result → b.spawner.told ≡ m.spawner.told
@@ -223,10 +269,32 @@ list_prints options a b result lists =
     }))))))
     lists
 
--- ---- `selftest`
+pub list_silent : (options : ListOptions) (a b : Work) (result : Result Verdict Refusal) → ListsSuite options a b result → (b.out.told ≡ a.out.told) ⊎ (may_have_printed false result ≡ true)
+list_silent options a b result lists =
+    then_printed out_of a b result (λ r m s i. (s.rest i).out.told) (λ settings f conf.
+    then_printed out_of f b result (λ r m s i. (s.same i).out.told) (λ _ p compiled.
+    then_printed out_of p b result (λ r m s i. (s.rest i).out.told) (λ further q read.
+    then_printed out_of q b result (λ r m s i. (s.rest i).out.told) (λ ids l listed.
+    then_printed out_of l b result (λ r m s i. (s.same i).out.told) (λ text t made printed.
+    inr (then_may false Passed t b result printed))))))
+    lists
+
+-- ---- `selftest` and `upgrade`
 
 pub selftest_prints : (drawing : SelfTestWords) (a b : Work) (result : Result Verdict Refusal) → TestsItself drawing a b result → (b.out.told ≡ a.out.told) ⊎ AppendsPrefix a.out.told b.out.told (summary_text (rows_in_turn drawing) 0 [])
 selftest_prints drawing a b result tests =
     then_printed out_of a b result (λ r m s i. (s.same i).out.told) (λ told m still printed.
     inr (part_as a.out.told m.out.told b.out.told told.text.items _ (λ i. (still.same i).out.told) still.says.told.text (printed_part told.text.items told.verdict m b result printed)))
     tests
+
+pub selftest_silent : (drawing : SelfTestWords) (a b : Work) (result : Result Verdict Refusal) → TestsItself drawing a b result → (b.out.told ≡ a.out.told) ⊎ (may_have_printed false result ≡ true)
+selftest_silent drawing a b result tests =
+    then_printed out_of a b result (λ r m s i. (s.same i).out.told) (λ told m still printed.
+    inr (then_may false told.verdict m b result printed))
+    tests
+
+pub upgrade_silent : (a b : Shown) (result : Result Verdict Refusal) → UpgradesAll a b result → (b.out.told ≡ a.out.told) ⊎ (may_have_printed false result ≡ true)
+upgrade_silent a b result upgrades =
+    then_printed shown_out_of a b result (λ r m s i. (s.rest i).out.told) (λ count m upgraded printed.
+    inr (then_may false Passed m b result printed))
+    upgrades

@@ -6,7 +6,9 @@ use Rattle.edge_io.proofs.Going.{goes_weaker}
 use Rattle.edge_io.proofs.Passing.{passes_weaker}
 use Rattle.run_ledger.specs.Refreshing.{KeepsSound}
 use Rattle.run_shelf.specs.Images.{PassesOld, PassesFormat, HasFormatBeside}
-use Rattle.testr_commands.specs.Answer.{may_have_kept, IsChildFault}
+use Rattle.sub_number.specs.declared.memory.NoMemory.{NoMemory}
+use Rattle.testr_commands.specs.Answer.{load_has_kept, run_has_kept, has_kept, may_have_kept, is_copied, may_have_printed, IsChildFault}
+use Rattle.testr_commands.specs.Stored.{Stores}
 use Rattle.command_steps.specs.Refusals.{refusal_exit_status, exit_status, fault_place_in}
 use Rattle.command_steps.specs.Outside.{Outside, Work, work_of, shown, work_out, Place, SomeRose, SameCounts, RisesAt}
 use Rattle.testr_commands.specs.Printed.{PrintsInPart}
@@ -23,6 +25,7 @@ use Rattle.command_steps.specs.Verdicts.{verdict_exit_status}
 use Rattle.command_steps.specs.declared.answer.Verdict.{Verdict}
 use Rattle.command_steps.specs.declared.answer.Verdict.TheVariants.{Passed, Failed}
 use Rattle.command_steps.specs.declared.answer.Refusal.{Refusal}
+use Rattle.command_steps.specs.declared.answer.Refusal.TheVariants.{Memory}
 use Rattle.testr_words.specs.declared.command.Question.{Question}
 use Rattle.testr_words.specs.declared.selftest_words.SelfTestWords.{SelfTestWords}
 use Rattle.testr_commands.proofs.CauseLaws.{init_never, load_never, ask_never}
@@ -32,7 +35,8 @@ use Rattle.testr_commands.proofs.DoneLaws.{init_made, init_passed, load_did, ask
 use Rattle.testr_commands.proofs.KeepLemmas.{keeps_runs, init_keeps, init_repository, load_keeps}
 use Rattle.testr_commands.proofs.KeepingLaws.{MovesSoundly, quiet_moves}
 use Rattle.testr_commands.proofs.MomentLaws.{init_moves, init_sound, load_moves}
-use Rattle.testr_commands.proofs.PrintedLaws.{load_prints, ask_prints, list_prints, selftest_prints}
+use Rattle.testr_commands.proofs.PrintedLaws.{load_prints, ask_prints, list_prints, selftest_prints, load_silent, ask_silent, list_silent, selftest_silent, upgrade_silent}
+use Rattle.testr_commands.proofs.StoredLaws.{load_stores}
 use Rattle.testr_commands.proofs.RefusalLemmas.{codes, IsFault, of_part, of_child, faults, some_rose}
 use Rattle.command_steps.proofs.Resting.{KeepsReads, rests_same}
 use Rattle.testr_commands.proofs.SelfTestLaws.{selftest_beside, selftest_failed, selftest_never, selftest_did}
@@ -43,7 +47,7 @@ use Rattle.testr_commands.proofs.SuiteCauses.{NoCause}
 use Rattle.testr_commands.proofs.SuiteDone.{list_did, run_did}
 use Rattle.testr_commands.proofs.SuiteKeeps.{run_keeps}
 use Rattle.testr_commands.proofs.SuiteLaws.{list_refused, list_counted, run_refused, run_counted, selftest_refused, selftest_counted}
-use Rattle.testr_commands.proofs.SuiteLeaves.{RunsMoves, run_leaves, run_suite_moves}
+use Rattle.testr_commands.proofs.SuiteLeaves.{RunsMoves, run_leaves, run_silent, run_stores, run_suite_moves}
 use Rattle.testr_commands.proofs.SuiteNever.{run_never}
 use Rattle.testr_commands.proofs.SuiteQuiet.{list_same}
 use Rattle.testr_commands.proofs.SuiteReach.{same_few}
@@ -66,6 +70,21 @@ by_fault Starts r a b is (of_child child) = inr (is.child child, child)
 -- no cause is left but want of memory
 by_code : (answer code : ℕ) → answer ≡ code → 3 ≤ code → code ≤ 5 → (code ≡ 3 → ⊥) → (code ≡ 4 → ⊥) → answer ≡ 5
 by_code answer code same least most three four = omega arith
+
+-- it is so, unless this is
+not_other : {X : Type 0} {may : Bool} → X ⊎ (may ≡ true) → may ≡ false → X
+not_other (inl holds) not = holds
+not_other (inr is) not = absurd cc
+
+-- where memory was wanting no run was kept
+memory_early : {X : Type 0} (asked : Option Task) (outcome : Result Verdict Refusal) (fault : NoMemory) → outcome ≡ Err (Memory fault) → has_kept asked outcome ≡ true → X
+memory_early (Some (load options names)) outcome fault is has =
+    let both : true ≡ false = sym has ∙ ap load_has_kept is in
+    absurd cc
+memory_early (Some (run options)) outcome fault is has =
+    let both : true ≡ false = sym has ∙ ap run_has_kept is in
+    absurd cc
+memory_early asked outcome fault is has = absurd cc
 
 no_fault : {A B C : Type 0} → (A → ⊥) → (C → ⊥) → A ⊎ (B × C) → ⊥
 no_fault none child (inl rose) = none rose
@@ -194,6 +213,21 @@ module _ (a b : Work) where
   printed_of (Some (selftest drawing)) outcome done = selftest_prints drawing a b outcome done
   printed_of (Some upgrade) outcome done = upgrade_prints a b outcome done.at
 
+  unprinted_of : (asked : Option Task) (outcome : Result Verdict Refusal) → Performs asked a b outcome → may_have_printed (is_copied asked) outcome ≡ false → b.out.told ≡ a.out.told
+  unprinted_of None outcome done not = λ i. (done.same i).out.told
+  unprinted_of (Some init) outcome done not = λ i. (done.rest i).out.told
+  unprinted_of (Some (load options names)) outcome done not = not_other (load_silent options names a b outcome done) not
+  unprinted_of (Some (ask question)) outcome done not = not_other (ask_silent question (shown a.folder a.out) (shown b.folder b.out) outcome done.at) not
+  unprinted_of (Some (list options)) outcome done not = not_other (list_silent options a b outcome done) not
+  unprinted_of (Some (run options)) outcome done not = not_other (run_silent options a b outcome done) not
+  unprinted_of (Some (selftest drawing)) outcome done not = not_other (selftest_silent drawing a b outcome done) not
+  unprinted_of (Some upgrade) outcome done not = not_other (upgrade_silent (shown a.folder a.out) (shown b.folder b.out) outcome done.at) not
+
+  stored_of : (asked : Option Task) (outcome : Result Verdict Refusal) → Performs asked a b outcome → has_kept asked outcome ≡ true → Stores asked a b
+  stored_of (Some (load options names)) outcome done has = load_stores options names a b outcome done has
+  stored_of (Some (run options)) outcome done has = run_stores options a b outcome done has
+  stored_of asked outcome done has = cc
+
   -- a task that starts no program has no fault of one
   no_child : (task : Task) (r : Refusal) → (StartsPrograms (Some task) → ⊥) → Performs (Some task) a b (Err r) → IsChildFault (Err r) → ⊥
   no_child task r starts done child = starts ((refused task r done).child child)
@@ -290,6 +324,8 @@ module _ (reading : Bool) (asked : Option Task) (before after : Outside) (answer
         fault = fault_of a b answer asked outcome done code;
         leaves = leaves_of before after asked outcome done;
         prints = printed_of a b asked outcome done;
+        unprinted = unprinted_of a b asked outcome done;
+        stored = stored_of a b asked outcome done;
         kept = kept_of a b asked outcome done;
         repository = repository_of a b asked outcome done;
         any_moment = moments_of a b asked outcome done;
@@ -311,6 +347,8 @@ module _ (reading : Bool) (asked : Option Task) (before after : Outside) (answer
         fault = λ four. absurd (omega (arith, five, four));
         leaves = leaves_all before after asked gives.same;
         prints = inl (λ i. (gives.same i).out.told);
+        unprinted = λ not i. (gives.same i).out.told;
+        stored = λ has. memory_early asked answers.outcome gives.fault gives.memory has;
         kept = λ not. same_keeps a b same asked;
         repository = same_repository a b same;
         any_moment = same_moments a b same asked;

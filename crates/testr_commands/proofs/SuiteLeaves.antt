@@ -1,5 +1,5 @@
 -- What a run leaves at each exit, from its workers on: what was started and printed, and what a stop at each moment leaves.
-use Rattle.std.proofs.Common.{◌≡◌, ◌⊎◌, inl, inr, ℕ, Bool, Option, None, Some, IfSome, Result, Ok, Err, List, [], ◌++◌, length, All, refl, sym, subst, ◌∙◌, arith}
+use Rattle.std.proofs.Common.{◌≡◌, ◌⊎◌, inl, inr, ℕ, Bool, true, false, Option, None, Some, IfSome, Result, Ok, Err, List, [], ◌++◌, length, All, refl, sym, ap, subst, ◌∙◌, arith}
 use Rattle.std.specs.Io.KnownBytes.{Appends}
 use Rattle.std.proofs.KnownBytes.{Appends-nil, Appends-trans}
 use Rattle.std.proofs.lemmas.List.{append-nil}
@@ -18,7 +18,8 @@ use Rattle.packet_codec.specs.declared.event.Event.{Event}
 use Rattle.run_ledger.specs.Refreshing.{KeepsSound}
 use Rattle.run_shelf.specs.Drafts.{Writes}
 use Rattle.run_shelf.specs.Repository.{Run, run_of, Shows}
-use Rattle.run_shelf.proofs.DraftLemmas.{goes_writes}
+use Rattle.run_shelf.specs.Images.{KeepsRun}
+use Rattle.run_shelf.proofs.DraftLemmas.{goes_writes, run_kept}
 use Rattle.suite_run.specs.Recording.{RecordsLanes}
 use Rattle.testr_conf.specs.Settings.{Settings}
 use Rattle.suite_run.specs.Starting.{StartsAll, StartsSome, StartsLanes}
@@ -33,22 +34,27 @@ use Rattle.command_steps.specs.Causes.{FindsCauses}
 use Rattle.testr_commands.specs.Searches.{SearchesSome, TakesFirst}
 use Rattle.testr_commands.specs.RunSuite.{TellsRun, TellsAndFinds, RunsSuite}
 use Rattle.command_steps.specs.Working.{Works}
-use Rattle.command_steps.specs.Runs.{run_bytes, HasRunAndCaches, KeepsRepository}
+use Rattle.command_steps.specs.Runs.{run_bytes, HasRunAndCaches, KeepsRepository, AddsRun}
 use Rattle.command_steps.specs.Steps.{Then, stops, goes_on, Gives, At}
 use Rattle.command_steps.specs.Store.{Begins, Keeps}
+use Rattle.testr_commands.specs.Answer.{run_has_kept, may_have_printed}
+use Rattle.testr_commands.specs.Stored.{StoresSuite}
 use Rattle.testr_commands.specs.SuiteStops.{HasSuiteRun, PassesSuiteRun}
 use Rattle.testr_words.specs.Suites.{RunOptions, is_partial}
 use Rattle.testr_commands.specs.Workers.{RunsWorkers, AsksFew, StartsInOrder, PrintsFirst, LeavesRun}
 use Rattle.command_steps.specs.declared.answer.Verdict.{Verdict}
 use Rattle.command_steps.specs.declared.answer.Refusal.{Refusal}
-use Rattle.command_steps.specs.declared.answer.Refusal.TheVariants.{Lanes, Keep, Refresh}
+use Rattle.command_steps.specs.declared.answer.Refusal.TheVariants.{Start, Lanes, Keep, Refresh}
 use Rattle.testr_commands.proofs.ChainLemmas.{IsQuiet, gives_not}
 use Rattle.testr_commands.proofs.DoneLaws.{kept_through}
 use Rattle.testr_commands.proofs.KeepingLaws.{keeps_moves, MovesSoundly, run_moves as run_passes}
 use Rattle.testr_commands.proofs.MergeLaws.{HaveOutputs, AreOfOutputs, have_outputs, of_outputs}
 use Rattle.command_steps.proofs.Resting.{KeepsReads, rests_then, rests_of_same, goes_ends}
-use Rattle.command_steps.proofs.SoundLemmas.{PassesAll, KeepsRunAndCaches, rests_repository, rests_sound}
+use Rattle.command_steps.proofs.SoundLemmas.{PassesAll, KeepsRunAndCaches, adds_run, rests_repository, rests_sound}
+use Rattle.testr_commands.proofs.KeepLemmas.{refused_as}
 use Rattle.testr_commands.proofs.StepLaws.{begin_quiet}
+use Rattle.testr_commands.proofs.StoredLaws.{kept_adds, adds_through}
+use Rattle.testr_commands.proofs.SuiteKeeps.{causes_late}
 use Rattle.testr_commands.proofs.FindLemmas.{TellsEvents, TakesPart, tells_behind, causes_still, causes_left, none_searched, so_told}
 use Rattle.testr_commands.proofs.SuiteDone.{Worked, work_did, tell_did, rows_told, told_before, where_told}
 use Rattle.testr_commands.proofs.SuiteQuiet.{spawner_quiet}
@@ -235,6 +241,7 @@ module _ (options : RunOptions) (a : Work) (reached : Reached options a) (end : 
     workers : RunsWorkers options a end
     printed : IfSome a.folder.told (λ s. (runs : List Run) → Shows s.disk.published runs → TakesFirst (report_for options.format (rows_of workers.events) (length runs) workers.planned.settings.filter_tags) workers.lines workers.worked end.spawner.told a.out.told end.out.told)
     passes : Goes start.folder.told m.folder.told (PassesAll number (run_of partial (run_bytes workers.events)))
+    stores : Goes a.folder.told m.folder.told (AddsRun partial workers.events)
 
   module _ (m : Work) (rows : List Row) (works : Works partial number plan start m (Ok rows)) where
     abbrev work : Worked partial number plan rows start m
@@ -242,6 +249,9 @@ module _ (options : RunOptions) (a : Work) (reached : Reached options a) (end : 
 
     stored : Goes a.folder.told m.folder.told (KeepsRunAndCaches number (run_of partial (run_bytes work.events)))
     stored = kept_through number (run_of partial (run_bytes work.events)) a.folder.told start.folder.told m.folder.told reached.mild.quiet work.kept
+
+    added : Goes a.folder.told m.folder.told (AddsRun partial work.events)
+    added = goes_weaker a.folder.told m.folder.told (KeepsRunAndCaches number (run_of partial (run_bytes work.events))) (AddsRun partial work.events) stored (adds_run partial number work.events)
 
     told_as : (report : Report) → IsReport options.format number tags rows report → IsReport options.format number tags (rows_of work.events) report
     told_as report says = subst (λ (l : List Row). IsReport options.format number tags l report) work.rows_are says
@@ -258,6 +268,7 @@ module _ (options : RunOptions) (a : Work) (reached : Reached options a) (end : 
           printed = rows_told partial options.format number tags work.events report (λ text. TakesFirst text [] m.spawner.told end.spawner.told a.out.told end.out.told) a.folder.told m.folder.told stored (told_as report says)
               (so_told a.folder.told _ (inl (record { none = is; no_lines = refl; printed = first })));
           passes = work.passes reached.calm;
+          stores = added;
         }
 
     -- nothing was printed
@@ -266,6 +277,7 @@ module _ (options : RunOptions) (a : Work) (reached : Reached options a) (end : 
       workers = worked_workers m rows work [] (none_searched options.find_causes settings work.events a.folder.told m.spawner.told end.spawner.told is);
       printed = every a.folder.told (λ text. inl (record { none = is; no_lines = refl; printed = (0, omega arith, subst (λ (o : Option (List ℕ)). Appends a.out.told o []) (sym (same ∙ out_as)) (Appends-nil a.out.told)) }));
       passes = work.passes reached.calm;
+      stores = added;
     }
       where
         every : (o : Option Folder) → ((text : List ℕ) → TakesFirst text [] m.spawner.told end.spawner.told a.out.told end.out.told) → IfSome o (λ s. (runs : List Run) → Shows s.disk.published runs → TakesFirst (report_for options.format (rows_of work.events) (length runs) tags) [] m.spawner.told end.spawner.told a.out.told end.out.told)
@@ -284,6 +296,7 @@ module _ (options : RunOptions) (a : Work) (reached : Reached options a) (end : 
           printed = rows_told partial options.format number tags work.events report (λ text. TakesFirst text left.lines m.spawner.told end.spawner.told a.out.told end.out.told) a.folder.told m.folder.told stored (told_as report says)
               (where_told a.folder.told (TakesPart left.lines n.out.told end.out.told) _ (λ taken. inr (record { part = taken.part; rest = taken.rest; lines_are = taken.lines_are; printed = Appends-trans a.out.told n.out.told end.out.told report.text taken.part first taken.printed })) left.taken);
           passes = work.passes reached.calm;
+          stores = added;
         }
 
     -- the chain behind the workers
@@ -321,6 +334,55 @@ module _ (options : RunOptions) (a : Work) (reached : Reached options a) (end : 
   begun_all : (result : Result Verdict Refusal) → GoesOnWith options number plan settings start end result → StartsInOrder options a end
   begun_all result (stops fault step_is step) = starts end (Err fault) refl step
   begun_all result (goes_on rows m step next) = inr (inr (behind m rows step result next).workers)
+
+  -- nothing was printed, or a step refused that may have
+  late : (rows : List Row) (m : Work) (result : Result Verdict Refusal) → TellsAndFinds options.format options.find_causes settings number rows m end result → (end.out.told ≡ m.out.told) ⊎ (may_have_printed false result ≡ true)
+  late rows m result (stops fault step_is (stops why made_is made)) = inl (λ i. (made.same i).out.told)
+  late rows m result (stops fault step_is (goes_on report l made (stops why print_is printed))) = inr (ap (may_have_printed false) (step_is ∙ print_is))
+  late rows m result (stops fault step_is (goes_on report l made (goes_on _ n printed gives))) = absurd (gives_not n end fault gives)
+  late rows m result (goes_on verdict n tells (stops fault step_is finds)) =
+      inr (ap (may_have_printed false) step_is ∙ causes_late (λ r. may_have_printed false (Err r)) (λ why. refl) (λ why. refl) (λ why. refl) (λ why. refl) options.find_causes settings number rows n end fault finds)
+  late rows m result (goes_on verdict n tells (goes_on v p finds gives)) = inr (ap (may_have_printed false) gives.answer)
+
+  silent_by : (result : Result Verdict Refusal) → GoesOnWith options number plan settings start end result → (end.out.told ≡ a.out.told) ⊎ (may_have_printed false result ≡ true)
+  silent_by result (stops fault step_is step) = inl (works_out partial number plan start end (Err fault) step ∙ reached.mild.out)
+  silent_by result (goes_on rows m step next) = by (late rows m result next)
+    where
+      by : (end.out.told ≡ m.out.told) ⊎ (may_have_printed false result ≡ true) → (end.out.told ≡ a.out.told) ⊎ (may_have_printed false result ≡ true)
+      by (inl same) = inl (same ∙ works_out partial number plan start m (Ok rows) step ∙ reached.mild.out)
+      by (inr may) = inr may
+
+  -- ---- the run that is kept
+
+  -- a step before the keeping did not refuse
+  not_early : {X : Type 0} (named r : Refusal) → ◌≡◌ {A = Result (List Row) Refusal} (Err r) (Err named) → run_has_kept (Err named) ≡ false → run_has_kept (Err r) ≡ true → X
+  not_early named r is early has =
+      let both : true ≡ false = sym has ∙ refused_as (λ x. run_has_kept (Err x)) named r is ∙ early in
+      absurd cc
+
+  -- the caches were not brought up
+  works_store : (r : Refusal) → Works partial number plan start end (Err r) → run_has_kept (Err r) ≡ true → StoresSuite options a end
+  works_store r (stops fault is step) has = not_early (Keep fault) r is refl has
+  works_store r (goes_on _ k begun (stops fault is step)) has = not_early (Start fault) r is refl has
+  works_store r (goes_on _ k begun (goes_on rests l started (stops fault is step))) has = not_early (Lanes fault) r is refl has
+  works_store r (goes_on _ k begun (goes_on rests l started (goes_on rows n recorded (stops fault is step)))) has = not_early (Keep fault) r is refl has
+  works_store r (goes_on _ k begun (goes_on rests l started (goes_on rows n recorded (goes_on _ q kept (stops fault is refreshed))))) has =
+      let workers : RunsWorkers options a end = recorded_workers k l n rests rows begun started recorded ((λ i. (refreshed.rest i).spawner.told) ∙ (λ i. (kept.rest i).spawner.told)) in
+      let events : List Event = recorded.at.recorded.merge.events in
+      let grown : Goes k.folder.told n.folder.told (Grown (run_bytes events)) = subst (λ (f : Seen Folder). Goes f.told n.folder.told (Grown (run_bytes events))) (λ i. (started.rest i).folder) recorded.at.recorded.merge.added in
+      let written : Goes start.folder.told n.folder.told (Writes (run_bytes events)) = goes_writes start.folder.told k.folder.told n.folder.told (run_bytes events) begun.at.begun grown in
+      let keeps : Goes start.folder.told q.folder.told (KeepsRun number (run_of partial (run_bytes events))) = run_kept number partial (run_bytes events) start.folder.told n.folder.told q.folder.told written kept.at.kept in
+      record {
+        workers = workers;
+        stored = adds_through partial number events a.folder.told start.folder.told end.folder.told reached.mild.quiet (kept_adds partial number events rows start.folder.told q.folder end.folder (Err fault) refreshed.at keeps);
+      }
+  works_store r (goes_on _ k begun (goes_on rests l started (goes_on rows n recorded (goes_on _ q kept (goes_on _ p refreshed gives))))) has = absurd (gives_not p end r gives)
+
+  stores_by : (result : Result Verdict Refusal) → GoesOnWith options number plan settings start end result → run_has_kept result ≡ true → StoresSuite options a end
+  stores_by result (stops fault step_is step) has = works_store fault step (sym (ap run_has_kept step_is) ∙ has)
+  stores_by result (goes_on rows m step next) has =
+      let so = behind m rows step result next in
+      record { workers = so.workers; stored = goes_ends (AddsRun partial so.workers.events) refl (sym (finds_folder m rows step result next)) so.stores }
 
   -- ---- what a stop at each moment leaves, and that it is sound where it was
 
@@ -372,8 +434,22 @@ module _ (options : RunOptions) (a : Work) (reached : Reached options a) (end : 
 
 pub run_leaves : (options : RunOptions) (a b : Work) (result : Result Verdict Refusal) → RunsSuite options a b result → LeavesRun options a b
 run_leaves options a b result runs = elim (reaches options a b result runs) [
-  | inl mild ↦ record { started = inl mild.asked; printed = inl mild.out }
+  | inl early ↦ record { started = inl early.0.asked; printed = inl early.0.out }
   | inr both ↦ record { started = begun_all options a both.0 b result both.1; printed = prints options a both.0 b result both.1 }
+]
+
+-- nothing was printed, unless a step refused that may have
+pub run_silent : (options : RunOptions) (a b : Work) (result : Result Verdict Refusal) → RunsSuite options a b result → (b.out.told ≡ a.out.told) ⊎ (may_have_printed false result ≡ true)
+run_silent options a b result runs = elim (reaches options a b result runs) [
+  | inl early ↦ inl early.0.out
+  | inr both ↦ silent_by options a both.0 b result both.1
+]
+
+-- the run stands for good, where a step refused that comes behind its keeping
+pub run_stores : (options : RunOptions) (a b : Work) (result : Result Verdict Refusal) → RunsSuite options a b result → run_has_kept result ≡ true → StoresSuite options a b
+run_stores options a b result runs has = elim (reaches options a b result runs) [
+  | inl early ↦ let both : true ≡ false = sym has ∙ early.1 in absurd cc
+  | inr both ↦ stores_by options a both.0 b result both.1 has
 ]
 
 -- what a stop at each moment leaves, that it is sound where it was, and that a repository stays one
@@ -384,6 +460,6 @@ pub record RunsMoves (options : RunOptions) (a b : Work) (s t : Folder) : Type 0
 
 pub run_suite_moves : (options : RunOptions) (a b : Work) (result : Result Verdict Refusal) → RunsSuite options a b result → Goes a.folder.told b.folder.told (RunsMoves options a b)
 run_suite_moves options a b result runs = elim (reaches options a b result runs) [
-  | inl mild ↦ goes_weaker a.folder.told b.folder.told KeepsReads (RunsMoves options a b) mild.quiet (λ s t rests. record { stops = inl rests.old; sound = rests_sound s t rests; repository = rests_repository s t rests })
+  | inl early ↦ goes_weaker a.folder.told b.folder.told KeepsReads (RunsMoves options a b) early.0.quiet (λ s t rests. record { stops = inl rests.old; sound = rests_sound s t rests; repository = rests_repository s t rests })
   | inr both ↦ goes_weaker a.folder.told b.folder.told (RunMoves options a both.0 b) (RunsMoves options a b) (moves options a both.0 b result both.1) (λ s t moves. record { stops = moves.stops; sound = moves.sound; repository = moves.repository })
 ]

@@ -13,6 +13,7 @@ use Rattle.suite_plan.specs.Calling.{CallsOut, CallsSo, HasCallCause}
 use Rattle.suite_plan.specs.Children.{StartsFor}
 use Rattle.suite_plan.specs.ConfFile.{GivesSettings}
 use Rattle.suite_plan.specs.Listing.{ListsTests, ListsSo, HasListingCause}
+use Rattle.suite_plan.specs.declared.pattern_list.PatternListRefusal.TheVariants as pattern_list
 use Rattle.suite_plan.specs.declared.count_command.CallRefusal.{CallRefusal}
 use Rattle.suite_plan.specs.declared.count_command.CallRefusal.TheVariants as call
 use Rattle.suite_plan.specs.declared.test_listing.ListingRefusal.{ListingRefusal}
@@ -23,14 +24,17 @@ use Rattle.command_steps.specs.Perhaps.{Perhaps, not_asked, did, refused}
 use Rattle.testr_commands.specs.RunSuite.{TellsAndFinds, RunsBy, RunsSuite}
 use Rattle.command_steps.specs.Working.{Works}
 use Rattle.command_steps.specs.Runs.{KeepsFiles}
-use Rattle.command_steps.specs.Selecting.{Ids, UsesCalled, UsesAsked, CountsWorkers, Selects, Planned, Plans}
+use Rattle.command_steps.specs.Selecting.{Ids, UsesCalled, UsesAsked, CountsWorkers, further_refusal, Selects, Planned, Plans}
 use Rattle.command_steps.specs.Steps.{Step, Then, stops, goes_on, Gives}
 use Rattle.testr_words.specs.Suites.{RunOptions, is_partial}
+use Rattle.testr_commands.specs.Answer.{run_has_kept}
 use Rattle.testr_commands.specs.Workers.{AsksFew, HasPlanned}
 use Rattle.command_steps.specs.declared.answer.Refusal.{Refusal}
 use Rattle.command_steps.specs.declared.answer.Verdict.{Verdict}
+use Rattle.command_steps.specs.declared.test_selection.FurtherRefusal.{FurtherRefusal}
+use Rattle.command_steps.specs.declared.test_selection.FurtherRefusal.TheVariants as further
 use Rattle.command_steps.specs.declared.test_selection.Selected.{Selected}
-use Rattle.testr_commands.proofs.ChainLemmas.{IsQuiet}
+use Rattle.testr_commands.proofs.ChainLemmas.{IsQuiet, gives_not}
 use Rattle.command_steps.proofs.Resting.{KeepsReads, rests_then, rests_same, rests_of_stays}
 use Rattle.command_steps.proofs.SoundLemmas.{IsCalm, calm_after, surveyed_calm}
 use Rattle.testr_commands.proofs.StepLaws.{open_quiet}
@@ -168,6 +172,66 @@ plan_mild settings asked selected =
     then_mild 0 0 (λ a b r s. mild_same a b s.same) (λ _.
     gives_mild)))))
 
+-- ---- what refuses before the workers
+
+-- no run is kept where it refuses
+abbrev IsEarly : {A : Type 0} → Step Work A Refusal → Type 0
+IsEarly step = (a b : Work) (r : Refusal) → step a b (Err r) → run_has_kept (Err r) ≡ false
+
+same_refusal : {A : Type 0} (named r : Refusal) → ◌≡◌ {A = Result A Refusal} (Err r) (Err named) → r ≡ named
+same_refusal named r is = cc
+
+as_named : {A : Type 0} (named r : Refusal) → ◌≡◌ {A = Result A Refusal} (Err r) (Err named) → run_has_kept (Err named) ≡ false → run_has_kept (Err r) ≡ false
+as_named named r is early = ap (λ (x : Refusal). run_has_kept (Err x)) (same_refusal named r is) ∙ early
+
+then_early : {A B E : Type 0} {name : E → Refusal} {first : Step Work A E} {second : A → Step Work B Refusal} → ((fault : E) → run_has_kept (Err (name fault)) ≡ false) → ((v : A) → IsEarly (second v)) → IsEarly (Then name first second)
+then_early named rest a b r (stops fault is step) = as_named _ r is (named fault)
+then_early named rest a b r (goes_on v m done next) = rest v m b r next
+
+then_early_in : {A B : Type 0} {first : Step Work A Refusal} {second : A → Step Work B Refusal} → IsEarly first → ((v : A) → IsEarly (second v)) → IsEarly (Then (λ refusal. refusal) first second)
+then_early_in early rest a b r (stops fault is step) = as_named fault r is (early a b fault step)
+then_early_in early rest a b r (goes_on v m done next) = rest v m b r next
+
+gives_early : {A : Type 0} {value : A} → IsEarly (Gives {R = Refusal} value)
+gives_early a b r gives = absurd (gives_not a b r gives)
+
+called_early : (called : Option ℕ) → IsEarly (UsesCalled called)
+called_early (Some (suc less)) = gives_early
+called_early (Some zero) = then_early (λ fault. refl) (λ number. gives_early)
+called_early None = then_early (λ fault. refl) (λ number. gives_early)
+
+asked_early : (settings : Settings) (asked : ℕ) → IsEarly (UsesAsked settings asked)
+asked_early settings (suc less) = gives_early
+asked_early settings zero = then_early (λ fault. refl) called_early
+
+workers_early : (settings : Settings) (parallel : Bool) (asked : ℕ) → IsEarly (CountsWorkers settings parallel asked)
+workers_early settings false asked = gives_early
+workers_early settings true asked = asked_early settings asked
+
+further_early : (fault : FurtherRefusal) → run_has_kept (Err (further_refusal fault)) ≡ false
+further_early (further.Patterns (pattern_list.List refusal)) = refl
+further_early (further.Patterns (pattern_list.Bad line)) = refl
+further_early (further.Times refusal) = refl
+
+select_early : (settings : Settings) (options : RunOptions) → IsEarly (Selects settings options)
+select_early settings options =
+    then_early (λ fault. refl) (λ listed.
+    then_early further_early (λ given.
+    then_early (λ fault. refl) (λ failing.
+    then_early_in (workers_early settings options.parallel options.concurrency) (λ workers.
+    then_early (λ fault. refl) (λ listing.
+    then_early (λ fault. refl) (λ ids.
+    gives_early))))))
+
+plan_early : (settings : Settings) (asked : Bool) (selected : Selected) → IsEarly (Plans settings asked selected)
+plan_early settings asked selected =
+    then_early (λ fault. refl) (λ times.
+    then_early (λ fault. refl) (λ shares.
+    then_early (λ fault. refl) (λ _.
+    then_early (λ fault. refl) (λ jobs.
+    then_early (λ fault. refl) (λ _.
+    gives_early)))))
+
 -- ---- the workers
 
 -- jobs were made, and nothing else was done by then
@@ -183,17 +247,17 @@ pub record Reached (options : RunOptions) (a : Work) : Type 0 where
 abbrev pub GoesOnWith : (options : RunOptions) (number : ℕ) (plan : Planned) (settings : Settings) → Step Work Verdict Refusal
 GoesOnWith options number plan settings = Then (λ refusal. refusal) (Works (is_partial options) number plan) (λ rows. TellsAndFinds options.format options.find_causes settings number rows)
 
--- a run refuses before, or comes to them
+-- a run refuses before, and so keeps none; or it comes to them
 abbrev pub Reaches : RunOptions → Work → Work → Result Verdict Refusal → Type 0
-Reaches options a b result = Mild 2 a b ⊎ ((reached : Reached options a) × GoesOnWith options reached.number reached.plan reached.planned.settings reached.planning b result)
+Reaches options a b result = (Mild 2 a b × (run_has_kept result ≡ false)) ⊎ ((reached : Reached options a) × GoesOnWith options reached.number reached.plan reached.planned.settings reached.planning b result)
 
 module _ (options : RunOptions) (settings : Settings) (a : Work) (conf : IfSome a.site.told (GivesSettings options.project settings)) where
   by_reaches : (b : Work) (result : Result Verdict Refusal) → RunsBy options settings a b result → Reaches options a b result
-  by_reaches b result (stops fault is step) = inl (mild_more 0 2 a b (omega arith) (mild_folder a b step.rest (open_quiet a b (Err fault) step.at)))
+  by_reaches b result (stops fault is step) = inl (mild_more 0 2 a b (omega arith) (mild_folder a b step.rest (open_quiet a b (Err fault) step.at)), ap run_has_kept is)
   by_reaches b result (goes_on found m opened (stops fault is step)) =
-      inl (mild_more 0 2 a b (omega arith) (mild_then 0 0 a m b (mild_folder a m opened.rest (open_quiet a m (Ok found) opened.at)) (mild_same m b step.same)))
+      inl (mild_more 0 2 a b (omega arith) (mild_then 0 0 a m b (mild_folder a m opened.rest (open_quiet a m (Ok found) opened.at)) (mild_same m b step.same)), ap run_has_kept is)
   by_reaches b result (goes_on found m opened (goes_on _ m2 took (stops fault is step))) =
-      inl (mild_more 0 2 a b (omega arith) (mild_then 0 0 a m b (mild_folder a m opened.rest (open_quiet a m (Ok found) opened.at)) (mild_same m b (step.same ∙ took.same))))
+      inl (mild_more 0 2 a b (omega arith) (mild_then 0 0 a m b (mild_folder a m opened.rest (open_quiet a m (Ok found) opened.at)) (mild_same m b (step.same ∙ took.same))), ap run_has_kept is)
   by_reaches b result (goes_on found m opened (goes_on _ m2 took (goes_on _ m3 compiled next))) = behind next
     where
       same : m3 ≡ m
@@ -206,9 +270,9 @@ module _ (options : RunOptions) (settings : Settings) (a : Work) (conf : IfSome 
       calm = subst (λ (w : Work). IfSome w.folder.told IsCalm) (sym same) (surveyed_calm (kinds_of found) a.folder.told m.folder.told opened.at.found)
 
       behind : Then (λ refusal. refusal) (Selects settings options) (λ selected. Then (λ refusal. refusal) (Plans settings options.find_causes selected) (λ plan. GoesOnWith options (length (kinds_of found)) plan settings)) m3 b result → Reaches options a b result
-      behind (stops fault is step) = inl (mild_then 0 2 a m3 b first (select_mild settings options m3 b (Err fault) step))
+      behind (stops fault is step) = inl (mild_then 0 2 a m3 b first (select_mild settings options m3 b (Err fault) step), ap run_has_kept is ∙ select_early settings options m3 b fault step)
       behind (goes_on selected m4 selects (stops fault is step)) =
-          inl (mild_then 0 2 a m3 b first (mild_then 2 0 m3 m4 b (select_mild settings options m3 m4 (Ok selected) selects) (plan_mild settings options.find_causes selected m4 b (Err fault) step)))
+          inl (mild_then 0 2 a m3 b first (mild_then 2 0 m3 m4 b (select_mild settings options m3 m4 (Ok selected) selects) (plan_mild settings options.find_causes selected m4 b (Err fault) step)), ap run_has_kept is ∙ plan_early settings options.find_causes selected m4 b fault step)
       behind (goes_on selected m4 selects (goes_on plan m5 plans works)) =
           let chosen : Mild 2 m3 m5 = mild_then 2 0 m3 m4 m5 (select_mild settings options m3 m4 (Ok selected) selects) (plan_mild settings options.find_causes selected m4 m5 (Ok plan) plans) in
           inr (
@@ -238,7 +302,7 @@ seen_same : {S : Type 0} (a b : Seen S) → b.told ≡ a.told → b.faults ≡ a
 seen_same a b told faults = λ i. record { told = told i; faults = faults i }
 
 pub reaches : (options : RunOptions) (a b : Work) (result : Result Verdict Refusal) → RunsSuite options a b result → Reaches options a b result
-reaches options a b result (stops fault is step) = inl (mild_more 0 2 a b (omega arith) (mild_site a b step.rest))
+reaches options a b result (stops fault is step) = inl (mild_more 0 2 a b (omega arith) (mild_site a b step.rest), ap run_has_kept is)
 reaches options a b result (goes_on settings m read next) =
     let site : m.site ≡ a.site = seen_same a.site m.site read.at.same (read.at.count.stands refl) in
     let same : m ≡ a = read.rest ∙ ap (work_site.put a) site in

@@ -13,6 +13,7 @@ pub mod Sparing
 pub mod SparingRun
 pub mod SuiteStops
 pub mod Stops
+pub mod Stored
 pub mod Printed
 pub mod SuiteProgram
 pub mod Program

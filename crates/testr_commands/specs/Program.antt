@@ -16,7 +16,7 @@ use Rattle.run_ledger.specs.Refreshing.{KeepsSound}
 use Rattle.run_shelf.specs.Images.{MakesRepository}
 use Rattle.run_shelf.specs.Repository.{Run, Shows, IsRepository, most_runs, format_name}
 use Rattle.command_steps.specs.Reporting.{report_for}
-use Rattle.testr_commands.specs.Answer.{may_have_kept, IsChildFault}
+use Rattle.testr_commands.specs.Answer.{has_kept, may_have_kept, is_copied, may_have_printed, IsChildFault}
 use Rattle.command_steps.specs.Refusals.{refusal_text, exit_status, fault_place_in}
 use Rattle.testr_commands.specs.Ask.{Asks}
 use Rattle.command_steps.specs.Files.{AreSources, HasRecordedInTurn}
@@ -32,6 +32,7 @@ use Rattle.testr_words.specs.Questions.{OfLastRun}
 use Rattle.testr_commands.specs.SelfTest.{TestsItself, SumsUpAll}
 use Rattle.command_steps.specs.Steps.{Step, At}
 use Rattle.testr_commands.specs.Stops.{PassesTask}
+use Rattle.testr_commands.specs.Stored.{Stores}
 use Rattle.testr_commands.specs.SuiteProgram.{ListsAll, RunsAll, CanList, CanRun}
 use Rattle.testr_words.specs.Tasks.{Task, init, load, ask, list, run, selftest, upgrade}
 use Rattle.old_upgrade.specs.Upgrading.{StaysOrNot}
@@ -224,8 +225,12 @@ pub record Promises (reading : Bool) (asked : Option Task) (before after : Outsi
   pub leaves : Leaves asked before after
   -- nothing was printed, or a first part of what the task prints where it is done
   pub prints : PrintsInPart asked (work_of before) (work_of after)
+  -- nothing was, where the step that refuses comes before the printing
+  pub unprinted : may_have_printed (is_copied asked) answers.outcome ≡ false → after.out.told ≡ before.out.told
   -- reads give the files that they gave, whatever these are, unless a run was kept, or the call failed from its naming on
   pub kept : may_have_kept asked answers.outcome ≡ false → Goes before.folder.told after.folder.told (KeepsWithoutRun asked)
+  -- where the step that refuses comes behind the keeping of a run, that is stored
+  pub stored : has_kept asked answers.outcome ≡ true → Stores asked (work_of before) (work_of after)
   pub repository : Goes before.folder.told after.folder.told KeepsRepository
   -- a stop at each moment leaves what one before the call might have left, or the files as reads gave them before the
   -- call with all that the task adds
