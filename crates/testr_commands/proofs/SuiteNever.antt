@@ -126,7 +126,7 @@ list_cause name ids load_list.NoMemory files listed cause three = omega arith
 abbrev HasList : List ℕ → Files → Type 0
 HasList name files = (ids : Ids) × IsLoadList name ids files
 
-load_list_never : (name : List ℕ) (a b : Seen Files) (fault : ListRefusal) → IsSomeAnd a.told (HasList name) → ReadsLoadList name a b (Err fault) → NoCause (refusal.LoadList fault)
+pub load_list_never : (name : List ℕ) (a b : Seen Files) (fault : ListRefusal) → IsSomeAnd a.told (HasList name) → ReadsLoadList name a b (Err fault) → NoCause (refusal.LoadList fault)
 load_list_never name a b fault there reads = (
   (λ three. from_told a.told (HasList name) (HasListCause name fault) there reads.refused (λ files listed cause. list_cause name listed.0 fault files listed.1 cause three)),
   (λ child. child),

@@ -27,14 +27,16 @@ use Rattle.testr_commands.specs.Spoken.{nowhere, packets_for, Saying, Streams}
 use Rattle.suite_plan.specs.Choosing.{Ids}
 use Rattle.suite_plan.specs.LoadList.{ReadsLoadList}
 use Rattle.suite_plan.specs.declared.load_list.ListRefusal.{ListRefusal}
+use Rattle.suite_plan.specs.declared.load_list.ListRefusal.TheVariants as load_list
 use Rattle.edge_io.specs.Disk.{Files, Folder}
 use Rattle.command_steps.specs.declared.answer.Refusal.TheVariants.{LoadList}
-use Rattle.testr_commands.specs.Endings.{Readied, Expecting}
+use Rattle.testr_commands.specs.Endings.{Readied, CanExpect, Expecting}
 use Rattle.testr_commands.proofs.EndLemmas.{adding_to, adding_none}
 use Rattle.testr_commands.specs.WholeCall.{without_out, Hides, PromisesEnding, PromisesHiding, PromisesSaying, PromisesExpecting, PromisesUnwarned, most_workers_text, TellsMost, Warns, ReadsNot, PromisesCommand, PromisesWords, TestrPromises}
 use Rattle.testr_commands.proofs.ForceLemmas.{by_reading, by_memory}
 use Rattle.testr_commands.proofs.PromiseLemmas.{promises}
 use Rattle.testr_commands.proofs.SpokenLemmas.{saying_to, saying_none, no_packets}
+use Rattle.testr_commands.proofs.SuiteNever.{load_list_never}
 
 -- ---- without a report
 
@@ -78,13 +80,27 @@ module _ (promises : Option Ids → Outside → Outside → ℕ → Type 0) (bef
   pub not_expecting : (expect : Option (List ℕ)) → None ≡ expect → promises None before after answer → Expecting expect promises before after answer
   not_expecting expect is given = subst (λ (e : Option (List ℕ)). Expecting e promises before after answer) is given
 
+  -- a list that can be read is refused for want of memory alone
+  list_complete : (name : List ℕ) (listed : Seen Files) (refusal : ListRefusal) → CanExpect name before.site.told → ReadsLoadList name before.site listed (Err refusal) → after.site ≡ listed → (Rose before.site.faults after.site.faults → ⊥) → answer ≡ exit_status (Err (LoadList refusal)) → answer ≡ 5
+  list_complete name listed load_list.Site can reads same none code = absurd (none (subst (λ (s : Seen Files). Rose before.site.faults s.faults) (sym same) (reads.count.rose refl)))
+  list_complete name listed (load_list.TooLong given) can reads same none code = absurd ((load_list_never name before.site listed (load_list.TooLong given) can reads).0 refl)
+  list_complete name listed (load_list.Absent given) can reads same none code = absurd ((load_list_never name before.site listed (load_list.Absent given) can reads).0 refl)
+  list_complete name listed (load_list.NotId given number) can reads same none code = absurd ((load_list_never name before.site listed (load_list.NotId given number) can reads).0 refl)
+  list_complete name listed load_list.NoMemory can reads same none code = code
+
   -- it was read
   pub expecting : (name : List ℕ) (expect : Option (List ℕ)) (listed : Seen Files) (ids : Ids) → Some name ≡ expect → ReadsLoadList name before.site listed (Ok ids) → promises (Some ids) (record before { site = listed }) after answer → Expecting expect promises before after answer
-  expecting name expect listed ids is reads given = subst (λ (e : Option (List ℕ)). Expecting e promises before after answer) is (record { listed = listed; result = Ok ids; reads = reads; goes = given })
+  expecting name expect listed ids is reads given = subst (λ (e : Option (List ℕ)). Expecting e promises before after answer) is (record { listed = listed; result = Ok ids; reads = reads; goes = given; completeness = λ can none. inl refl })
 
   -- it was refused
   pub expecting_not : (name : List ℕ) (expect : Option (List ℕ)) (listed : Seen Files) (refusal : ListRefusal) → Some name ≡ expect → ReadsLoadList name before.site listed (Err refusal) → work_of after ≡ work_of (record before { site = listed }) → Tells (Err (LoadList refusal)) before.errors after.errors answer → Expecting expect promises before after answer
-  expecting_not name expect listed refusal is reads same told = subst (λ (e : Option (List ℕ)). Expecting e promises before after answer) is (record { listed = listed; result = Err refusal; reads = reads; goes = record { same = same; told = told } })
+  expecting_not name expect listed refusal is reads same told = subst (λ (e : Option (List ℕ)). Expecting e promises before after answer) is (record {
+      listed = listed;
+      result = Err refusal;
+      reads = reads;
+      goes = record { same = same; told = told };
+      completeness = λ can none. inr (list_complete name listed refusal can reads (λ i. (same i).site) none told.code);
+  })
 
 -- only of a load is anything expected, and the folder of the project decides nothing of it
 pub same_task : (folder other name : List ℕ) (c : Command) → Some name ≡ expects folder c → task_of other c ≡ task_of folder c

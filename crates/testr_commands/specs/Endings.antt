@@ -1,7 +1,8 @@
 -- What is told at the end of a call, behind all else, of tests that were asked for and did not run, and the list that tells what is
 -- expected of a load (docs/COMMANDS.md, "Tests that did not run").
-use Rattle.std.specs.Prelude.{◌≡◌, ◌⊎◌, ℕ, ◌≤◌, Bool, true, false, not, ◌&&◌, ◌||◌, nat_eq, is_some, Option, None, Some, List, [], ◌∷◌, ◌++◌, codes, length, Result, Ok, Err, if◌then◌else◌}
+use Rattle.std.specs.Prelude.{◌≡◌, ◌⊎◌, ℕ, ◌≤◌, Bool, true, false, not, ◌&&◌, ◌||◌, nat_eq, is_some, Option, None, Some, IsSomeAnd, List, [], ◌∷◌, ◌++◌, codes, length, Result, Ok, Err, IsOk, if◌then◌else◌}
 use Rattle.std.specs.List.{list_any, flat_map}
+use Rattle.edge_io.specs.Causes.{Rose}
 use Rattle.edge_io.specs.Disk.{Files, Folder}
 use Rattle.edge_io.specs.Seen.{Seen}
 use Rattle.edge_io.specs.Steps.{Goes}
@@ -14,7 +15,7 @@ use Rattle.run_shelf.specs.Holds.{kinds_of}
 use Rattle.run_shelf.specs.declared.found.Found.{Found}
 use Rattle.speaker.specs.Speaking.{Takes}
 use Rattle.suite_plan.specs.Choosing.{Ids}
-use Rattle.suite_plan.specs.LoadList.{ReadsLoadList}
+use Rattle.suite_plan.specs.LoadList.{IsLoadList, ReadsLoadList}
 use Rattle.suite_plan.specs.declared.load_list.ListRefusal.{ListRefusal}
 use Rattle.testr_conf.specs.Settings.{Settings}
 use Rattle.testr_words.specs.Suites.{Wanted, RunOptions, LoadOptions, is_partial}
@@ -155,12 +156,18 @@ abbrev pub ExpectsSo : Result Ids ListRefusal → (promises : Option Ids → Out
 ExpectsSo (Ok ids) promises = promises (Some ids)
 ExpectsSo (Err refusal) promises = RefusesList refusal
 
+-- the list of this name is told to be there, not to be too long, and to have texts alone
+abbrev pub CanExpect : List ℕ → Option Files → Type 0
+CanExpect name told = IsSomeAnd told (λ files. (ids : Ids) × IsLoadList name ids files)
+
 -- the list of this name was read before anything else was done
 pub record Expects (name : List ℕ) (promises : Option Ids → Outside → Outside → ℕ → Type 0) (before after : Outside) (answer : ℕ) : Type 0 where
   pub listed : Seen Files
   pub result : Result Ids ListRefusal
   pub reads : ReadsLoadList name before.site listed result
   pub goes : ExpectsSo result promises (record before { site = listed }) after answer
+  -- it does not give up at the list without a cause
+  pub completeness : CanExpect name before.site.told → (Rose before.site.faults after.site.faults → ⊥) → IsOk result ⊎ (answer ≡ 5)
 
 -- what is promised, by the list that is named, of the ids of that list, or of none
 abbrev pub Expecting : (name : Option (List ℕ)) → (promises : Option Ids → Outside → Outside → ℕ → Type 0) → Outside → Outside → ℕ → Type 0
