@@ -1,2 +1,3 @@
 pub mod FromLemmas
 pub mod UpgradeLemmas
+pub mod CopyLemmas

@@ -1,13 +1,15 @@
 -- `testr upgrade --from=DIR`: the old files of another folder are copied, and the folder is upgraded then (docs/COMMANDS.md,
 -- "Words").
-use Rattle.std.specs.Prelude.{◌≡◌, ◌⊎◌, ◌&&◌, nat_eq, nat_lt, ℕ, Option, Some, None, List, [], ◌∷◌, ◌++◌, length, drop, codes, Ok, Err, if◌then◌else◌}
+use Rattle.std.specs.Prelude.{◌≡◌, ◌⊎◌, ◌&&◌, nat_eq, nat_lt, ℕ, Option, Some, None, IsSome, IsSomeAnd, List, [], ◌∷◌, ◌++◌, length, drop, codes, Ok, Err, if◌then◌else◌}
 use Rattle.std.specs.Io.KnownBytes.{Appends}
 use Rattle.std.specs.List.{starts_with}
 use Rattle.std.specs.Str.{bytes_eq}
 use Rattle.edge_io.specs.Bytes.{AppendsPrefix}
 use Rattle.edge_io.specs.Causes.{Rose}
+use Rattle.edge_io.specs.Disk.{Files, Folder}
 use Rattle.edge_io.specs.Seen.{Seen}
-use Rattle.old_copies.specs.Copying.{places, CopiesOld}
+use Rattle.run_shelf.specs.Repository.{format_name}
+use Rattle.old_copies.specs.Copying.{folder_in, IsCopiedFirst, IsOldFolder, places, CopiesOld}
 use Rattle.old_copies.specs.declared.faults.OldCopyFault.{OldCopyFault}
 use Rattle.old_copies.specs.declared.faults.OldCopyFault.TheVariants.{Here, OldHere, StrangeHere, NoStore, NotOld, UnknownFormat, BadCount, OtherFiles, Site, Shelf, NoMemory}
 use Rattle.command_steps.specs.Outside.{Outside}
@@ -76,6 +78,19 @@ copy_text from NoMemory = codes "testr: out of memory\n"
 abbrev pub TellsCopyFault : List ℕ → OldCopyFault → Seen (List ℕ) → Seen (List ℕ) → Type 0
 TellsCopyFault from fault before after = AppendsPrefix before.told after.told (copy_text from fault) × (Appends before.told after.told (copy_text from fault) ⊎ Rose before.faults after.faults)
 
+-- ---- where it is not refused
+
+-- The other folder is one of the original tool. The one here is none of the two tools, and holds no file but those of the other one.
+pub record MayCopy (old files : Files) : Type 0 where
+  pub count : ℕ
+  pub is_old : IsOldFolder count old
+  pub free : files format_name ≡ None
+  pub alone : (name : List ℕ) → IsSome (files name) → IsCopiedFirst count name × (files name ≡ old name)
+
+-- both folders are told, and so
+abbrev pub CanCopy : (from : List ℕ) → Option Files → Option Folder → Type 0
+CanCopy from site folder = IsSomeAnd site (λ files. IsSomeAnd folder (λ s. MayCopy (folder_in from files) s.disk.published))
+
 -- ---- what is promised
 
 -- The files were copied, and nothing else was touched. From there on the call promises what `upgrade` alone does; it goes by no
@@ -94,6 +109,8 @@ pub record StopsFrom (from : List ℕ) (before after : Outside) (answer : ℕ) :
   pub rest : after ≡ record before { folder = after.folder; site = after.site; errors = after.errors }
   pub told : TellsCopyFault from fault before.errors after.errors
   pub code : answer ≡ copy_exit_status fault
+  -- it does not stop without a cause
+  pub completeness : CanCopy from before.site.told before.folder.told → (Rose before.folder.faults after.folder.faults → ⊥) → (Rose before.site.faults after.site.faults → ⊥) → answer ≡ 5
 
 -- the files were copied and the folder is upgraded then, or they were not and it is told why
 abbrev pub UpgradesFrom : Face → List ℕ → Outside → Outside → ℕ → Type 0

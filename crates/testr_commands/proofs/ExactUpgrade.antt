@@ -6,7 +6,7 @@ use Rattle.std.proofs.lemmas.Option.{slice_get-get_or}
 use Rattle.edge_io.specs.Disk.{Folder, Files}
 use Rattle.edge_io.specs.Seen.{Seen}
 use Rattle.run_shelf.specs.Adoption.{IsOld, old_format_bytes}
-use Rattle.run_shelf.specs.Repository.{full_name, format_name, format_bytes, based_format_bytes, most_runs, HasFormat}
+use Rattle.run_shelf.specs.Repository.{full_name, format_name, most_runs, HasFormat}
 use Rattle.old_folder.specs.Looking.{HasStrangeFormat, LacksCount}
 use Rattle.old_folder.specs.Olds.{failing_name, HasOldRun, IsOldCount, IsOldWith}
 use Rattle.old_runs.specs.Files.{IsDamaged}
@@ -16,24 +16,14 @@ use Rattle.old_upgrade.specs.declared.faults.UpgradeFault.TheVariants as upgrade
 use Rattle.command_steps.specs.Upgrading.{UpgradesFolder}
 use Rattle.testr_commands.specs.Exact.{UpgradeEnds}
 use Rattle.testr_commands.proofs.ExactLemmas.{no_format, no_other, two_formats, look_of, at_told}
+use Rattle.testr_commands.proofs.UpgradeLaws.{not_both}
 
 -- ---- whose format it is
-
-some_same : (one other : List ℕ) → Some one ≡ Some other → one ≡ other
-some_same one other same = cc
 
 no_old : (files : Files) → files format_name ≡ None → IsOld files → ⊥
 no_old files none old =
     let both : None ≡ Some old_format_bytes = sym none ∙ old in
     cc
-
-not_ours : (files : Files) → IsOld files → HasFormat files → ⊥
-not_ours files old (inl format) =
-    let sizes : 2 ≡ 16 = ap length (some_same old_format_bytes format_bytes (sym old ∙ format)) in
-    omega (arith, sizes)
-not_ours files old (inr format) =
-    let sizes : 2 ≡ 16 = ap length (some_same old_format_bytes based_format_bytes (sym old ∙ format)) in
-    omega (arith, sizes)
 
 -- ---- how many runs there are
 
@@ -143,13 +133,13 @@ no_repository_of files (Err (upgrade_fault.Shelf call)) none cause = inr tt
 no_repository_of files (Err upgrade_fault.NoMemory) none cause = inr tt
 
 not_old_of : (files : Files) (result : Result ℕ UpgradeFault) → HasFormat files → Cause files result → (result ≡ Err upgrade_fault.NotOld) ⊎ UpgradeEnds result
-not_old_of files (Ok count) ours cause = absurd (not_ours files cause.1.upgraded.was.old ours)
+not_old_of files (Ok count) ours cause = absurd (not_both files cause.1.upgraded.was.old ours)
 not_old_of files (Err upgrade_fault.NoStore) ours cause = absurd (no_format files cause ours)
 not_old_of files (Err upgrade_fault.NotOld) ours cause = inl refl
 not_old_of files (Err upgrade_fault.UnknownFormat) ours cause = absurd (two_formats files cause.other ours)
-not_old_of files (Err upgrade_fault.BadCount) ours cause = absurd (not_ours files cause.old ours)
-not_old_of files (Err (upgrade_fault.BadRun number)) ours cause = absurd (not_ours files cause.old.old ours)
-not_old_of files (Err upgrade_fault.BadFailing) ours cause = absurd (not_ours files cause.old.old ours)
+not_old_of files (Err upgrade_fault.BadCount) ours cause = absurd (not_both files cause.old ours)
+not_old_of files (Err (upgrade_fault.BadRun number)) ours cause = absurd (not_both files cause.old.old ours)
+not_old_of files (Err upgrade_fault.BadFailing) ours cause = absurd (not_both files cause.old.old ours)
 not_old_of files (Err (upgrade_fault.Shelf call)) ours cause = inr tt
 not_old_of files (Err upgrade_fault.NoMemory) ours cause = inr tt
 
@@ -167,7 +157,7 @@ unknown_format_of files (Err upgrade_fault.NoMemory) strange cause = inr tt
 bad_count_of : (files : Files) (result : Result ℕ UpgradeFault) → LacksCount files → Cause files result → (result ≡ Err upgrade_fault.BadCount) ⊎ UpgradeEnds result
 bad_count_of files (Ok count) lacks cause = absurd (no_count files (length cause.1.runs) lacks cause.1.upgraded.was)
 bad_count_of files (Err upgrade_fault.NoStore) lacks cause = absurd (no_old files cause lacks.old)
-bad_count_of files (Err upgrade_fault.NotOld) lacks cause = absurd (not_ours files lacks.old cause)
+bad_count_of files (Err upgrade_fault.NotOld) lacks cause = absurd (not_both files lacks.old cause)
 bad_count_of files (Err upgrade_fault.UnknownFormat) lacks cause = absurd (cause.not_old lacks.old)
 bad_count_of files (Err upgrade_fault.BadCount) lacks cause = inl refl
 bad_count_of files (Err (upgrade_fault.BadRun number)) lacks cause = absurd (no_count files cause.count lacks cause.old)
@@ -178,7 +168,7 @@ bad_count_of files (Err upgrade_fault.NoMemory) lacks cause = inr tt
 bad_run_of : (files : Files) (number : ℕ) (result : Result ℕ UpgradeFault) → HasBadRun number files → Cause files result → (result ≡ Err (upgrade_fault.BadRun number)) ⊎ UpgradeEnds result
 bad_run_of files number (Ok count) bad cause = absurd (no_bad_run files cause.0 count number bad cause.1)
 bad_run_of files number (Err upgrade_fault.NoStore) bad cause = absurd (no_old files cause bad.old.old)
-bad_run_of files number (Err upgrade_fault.NotOld) bad cause = absurd (not_ours files bad.old.old cause)
+bad_run_of files number (Err upgrade_fault.NotOld) bad cause = absurd (not_both files bad.old.old cause)
 bad_run_of files number (Err upgrade_fault.UnknownFormat) bad cause = absurd (cause.not_old bad.old.old)
 bad_run_of files number (Err upgrade_fault.BadCount) bad cause = absurd (no_count files bad.count cause bad.old)
 bad_run_of files number (Err (upgrade_fault.BadRun other)) bad cause = inl (ap (λ (n : ℕ). Err (upgrade_fault.BadRun n)) (one_run files number other bad cause))
@@ -189,7 +179,7 @@ bad_run_of files number (Err upgrade_fault.NoMemory) bad cause = inr tt
 bad_failing_of : (files : Files) (result : Result ℕ UpgradeFault) → HasBadFailing files → Cause files result → (result ≡ Err upgrade_fault.BadFailing) ⊎ UpgradeEnds result
 bad_failing_of files (Ok count) bad cause = absurd (no_bad_failing files cause.0 count bad cause.1)
 bad_failing_of files (Err upgrade_fault.NoStore) bad cause = absurd (no_old files cause bad.old.old)
-bad_failing_of files (Err upgrade_fault.NotOld) bad cause = absurd (not_ours files bad.old.old cause)
+bad_failing_of files (Err upgrade_fault.NotOld) bad cause = absurd (not_both files bad.old.old cause)
 bad_failing_of files (Err upgrade_fault.UnknownFormat) bad cause = absurd (cause.not_old bad.old.old)
 bad_failing_of files (Err upgrade_fault.BadCount) bad cause = absurd (no_count files bad.count cause bad.old)
 bad_failing_of files (Err (upgrade_fault.BadRun number)) bad cause = absurd (run_or_failing files number cause bad)

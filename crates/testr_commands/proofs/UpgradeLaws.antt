@@ -132,7 +132,7 @@ first_size = refl
 second_size : length based_format_bytes ≡ 16
 second_size = refl
 
-not_both : (files : Files) → IsOld files → HasFormat files → ⊥
+pub not_both : (files : Files) → IsOld files → HasFormat files → ⊥
 not_both files old (inl first) = omega (arith, ap length (some_bytes old_format_bytes format_bytes (sym old ∙ first)), old_size, first_size)
 not_both files old (inr second) = omega (arith, ap length (some_bytes old_format_bytes based_format_bytes (sym old ∙ second)), old_size, second_size)
 

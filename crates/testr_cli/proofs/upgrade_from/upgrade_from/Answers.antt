@@ -1,6 +1,7 @@
 use Rattle.std.proofs.Common.{inl, inr, refl, subst, List, ℕ}
 use Rattle.command_steps.specs.Outside.{outside}
 use Rattle.testr_commands.specs.WholeCall.{TestrPromises}
+use Rattle.testr_cli.proofs.CopyLemmas.{copy_complete}
 use Rattle.testr_cli.proofs.FromLemmas.{told_fault}
 use Rattle.testr_cli.proofs.upgrade_from.upgrade_from.Goals as goal
 
@@ -24,4 +25,5 @@ returns-in-Err g c = inr (record {
   rest = refl;
   told = told_fault c.args.from.now c.in-Err.fault (g.E.Sink.seen c.args.err.now) (g.E.Sink.seen c.tell_fault.new.err) c.tell_fault.result c.tell_fault.ensures.prefix c.tell_fault.ensures.whole c.tell_fault.ensures.cause;
   code = c.code_of.ensures;
+  completeness = copy_complete c.args.from.now (g.H.Shelf.seen c.args.shelf.now) (g.H.Shelf.seen c.copy_old.new.shelf) (g.F.Site.seen c.args.site.now) (g.F.Site.seen c.copy_old.new.site) c.in-Err.fault _ c.in-Err.ensures c.code_of.ensures;
 })
