@@ -95,11 +95,11 @@ module _ (promises : Option Ids → Outside → Outside → ℕ → Type 0) (bef
   -- it was refused
   pub expecting_not : (name : List ℕ) (expect : Option (List ℕ)) (listed : Seen Files) (refusal : ListRefusal) → Some name ≡ expect → ReadsLoadList name before.site listed (Err refusal) → work_of after ≡ work_of (record before { site = listed }) → Tells (Err (LoadList refusal)) before.errors after.errors answer → Expecting expect promises before after answer
   expecting_not name expect listed refusal is reads same told = subst (λ (e : Option (List ℕ)). Expecting e promises before after answer) is (record {
-      listed = listed;
-      result = Err refusal;
-      reads = reads;
-      goes = record { same = same; told = told };
-      completeness = λ can none. inr (list_complete name listed refusal can reads (λ i. (same i).site) none told.code);
+    listed = listed;
+    result = Err refusal;
+    reads = reads;
+    goes = record { same = same; told = told };
+    completeness = λ can none. inr (list_complete name listed refusal can reads (λ i. (same i).site) none told.code);
   })
 
 -- only of a load is anything expected, and the folder of the project decides nothing of it
