@@ -1,8 +1,9 @@
 #!/bin/sh
 # Tries `testr run --parallel` with real worker processes: 4 and 64 of them, workers that sleep side by side, one that is
 # slow while another prints much, one that is killed in the middle, one that cannot be started; what each is told to run,
-# on a first run and on one with known times; a disk that is full, an output or standard error that is closed; workers that
-# end with a killed program, and files of ids that it left; and kills of the program at random moments.
+# on a first run and on one with known times; a disk that is full, also beside silent workers; an output or standard error
+# that is closed; workers that end with a killed program, and files of ids that it left; and kills of the program at random
+# moments.
 # usage: bench/workers.sh [CASE..]: by default all cases. The variable KILLS says how often the program is killed: 100,
 # unless it is set. MEBIBYTES says how much the worker prints that prints much: 1024, unless it is set, and so much room is
 # needed on the disk.
@@ -220,6 +221,27 @@ def the_disk_is_full():
     os.remove(os.path.join(folder, "workers/1"))
     check_answer(run(folder, "run", "--parallel", "--concurrency=2"), 0, report([], 2, 1), "the next run")
     check_clean(folder)
+
+
+@case
+def silent_workers_are_stopped_with_the_others():
+    """One fills the disk, and the others print nothing: all are stopped at once."""
+    folder = many(3, worker=EACH)
+    write(folder, ".testr.conf", EXEC)
+    write(folder, "workers/0", b"exec cat /dev/zero\n")
+    for number in (1, 2):
+        write(folder, f"workers/{number}", b"exec sleep 600\n")
+
+    def limit():
+        signal.signal(signal.SIGXFSZ, signal.SIG_IGN)
+        resource.setrlimit(resource.RLIMIT_FSIZE, (1 << 20, 1 << 20))
+
+    start = time.monotonic()
+    status, out, err = run(folder, "run", "--parallel", "--concurrency=3", preexec_fn=limit)
+    took = time.monotonic() - start
+    check((status, out) == (4, b"") and err.startswith(b"testr: fault of the repository folder\n"), f"{status}, {out}, {err}")
+    check(took < 10, f"they were waited for, {took:.0f} s")
+    check_no_worker(folder)
 
 
 @case
