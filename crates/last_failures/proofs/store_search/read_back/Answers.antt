@@ -45,7 +45,7 @@ returns-then-is_done-clause-found g c =
     looks_done _ _ _ _ c.loop-number.number _ _ _ (omega arith) before.high (c.requires.fits c.requires.open) (c.is_done.ensures c.if-is_done.true) before.found
 
 pub returns-then-is_done-clause-time : goal.returns-then-is_done-clause-time
-returns-then-is_done-clause-time g c = costs_back _ c.loop-number.number _ _ _ (omega arith) c.loop-number.invariant.time
+returns-then-is_done-clause-time g c = costs_back _ c.loop-number.number 0 _ _ (omega arith) c.loop-number.invariant.time
 
 pub returns-in_err-take_run-clause-reads : goal.returns-in_err-take_run-clause-reads
 returns-in_err-take_run-clause-reads g c =
@@ -57,10 +57,10 @@ returns-in_err-take_run-clause-time g c =
     let next = c.loop-number.number - 1 in
     let one_less : c.loop-number.number ≡ next + 1 = omega (arith, c.loop-number-test.true) in
     let below : next < length (store_kinds c.args.store.now) = omega (arith, c.loop-number-test.true, before.high) in
-    costs_back _ next _ _ _ (omega arith) (costs_one _ _ _ next _ _ _ _ one_less below (c.requires.fits c.requires.open) before.reads.same before.time c.in_err-take_run.ensures.time)
+    costs_back _ next 0 _ _ (omega arith) (costs_one _ _ _ next _ _ _ _ one_less below (c.requires.fits c.requires.open) before.reads.same before.time c.in_err-take_run.ensures.time)
 
 pub returns-clause-found : goal.returns-clause-found
 returns-clause-found g c = looks_at _ _ _ c.loop-number.number _ _ _ (omega (arith, c.loop-number-test.false)) c.loop-number.invariant.found
 
 pub returns-clause-time : goal.returns-clause-time
-returns-clause-time g c = costs_back _ c.loop-number.number _ _ _ (omega arith) c.loop-number.invariant.time
+returns-clause-time g c = costs_back _ c.loop-number.number 0 _ _ (omega arith) c.loop-number.invariant.time
