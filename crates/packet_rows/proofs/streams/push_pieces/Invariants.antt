@@ -1,6 +1,6 @@
 use Rattle.std.specs.Prelude.{◌≡◌, ◌++◌, ◌≤◌, All, length, max}
 use Rattle.std.specs.List.{flat_map}
-use Rattle.packet_trials.proofs.streams.push_pieces.Given as goal
+use Rattle.packet_rows.proofs.streams.push_pieces.Given as goal
 
 abbrev pub invariant-loop-piece : goal.invariant-loop-piece
 invariant-loop-piece l = record {
