@@ -21,7 +21,8 @@ mod streams;
 mod told;
 mod writing;
 
-use crate::streams::{NoteCount, Notes, answer_in_pieces, answer_reader, stream_of};
+use crate::streams::{Notes, answer_in_pieces, answer_reader, stream_of};
+use crate::told::put_short;
 use row_book::{Row, Tables, read_book};
 use std::alloc::Global;
 use std::io;
@@ -33,7 +34,9 @@ struct AllTables;
 impl Tables for AllTables {
     fn answer(&self, alloc: Global, row: Row<'_>, said: &mut Vec<u8>) -> Option<()> {
         let given = stream_of(alloc, row.given)?;
-        answer_table(alloc, row.table, row.words, &given, said)
+        let mut whole = Vec::new(alloc);
+        answer_table(alloc, row.table, row.words, &given, &mut whole)?;
+        put_short(&whole, said)
     }
 }
 
@@ -48,8 +51,8 @@ fn answer_table(
         "part_crc" | "prefixes" => checksums::answer(alloc, table, words, said),
         "draws" => draws::answer_draws(words, said),
         "plans" => draws::answer_plans(alloc, words, said),
-        "notes" => answer_in_pieces(alloc, &Notes, words, given, said),
-        "note_count" => answer_in_pieces(alloc, &NoteCount, words, given, said),
+        "notes" => answer_in_pieces(alloc, &Notes { as_sizes: false }, words, given, said),
+        "note_sizes" => answer_in_pieces(alloc, &Notes { as_sizes: true }, words, given, said),
         "reader" => answer_reader(alloc, words, given, said),
         "recorded" | "recorded_notes" | "scribe" | "ending" => {
             scribes::answer(alloc, table, words, given, said)

@@ -48,7 +48,8 @@ impl InPieces for Recorded {
         let pieces = pieces(alloc, stream, size)?;
         let recorded = recorded_of_pieces(alloc, self.lane, &pieces).ok()?;
         if self.as_notes {
-            Notes.put(alloc, &recorded, 65_536, said)
+            let notes = Notes { as_sizes: false };
+            notes.put(alloc, &recorded, 65_536, said)
         } else {
             put_line(&recorded, said)
         }

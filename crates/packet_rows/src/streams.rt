@@ -124,6 +124,25 @@ fn put_note(note: &Note, said: &mut Vec<u8>) -> Option<()> {
     }
 }
 
+// The note, where of foreign bytes it is told how many they are.
+fn put_size(note: &Note, said: &mut Vec<u8>) -> Option<()> {
+    match note {
+        Note::Event(_) => put_note(note, said),
+        Note::Foreign(bytes) => {
+            put_all(&[b"foreign "], said)?;
+            put_number(bytes.bytes().len() as u128, b" bytes", said)
+        }
+    }
+}
+
+fn put_one(note: &Note, as_sizes: bool, said: &mut Vec<u8>) -> Option<()> {
+    if as_sizes {
+        put_size(note, said)
+    } else {
+        put_note(note, said)
+    }
+}
+
 // Whether what stands behind the place is the line that begins at the start.
 fn is_repeated(start: usize, place: usize, said: &[u8]) -> bool {
     let Some((front, this)) = said.split_at_checked(place) else {
@@ -147,9 +166,15 @@ fn end_run(times: u32, said: &mut Vec<u8>) -> Option<()> {
 }
 
 // The last notes were so many of the line that begins at the start. Answers that of the notes up to the next one.
-fn put_next(note: &Note, start: usize, times: u32, said: &mut Vec<u8>) -> Option<(usize, u32)> {
+fn put_next(
+    note: &Note,
+    as_sizes: bool,
+    start: usize,
+    times: u32,
+    said: &mut Vec<u8>,
+) -> Option<(usize, u32)> {
     let place = said.len();
-    put_note(note, said)?;
+    put_one(note, as_sizes, said)?;
     let repeated = is_repeated(start, place, said);
     said.truncate(place);
     if repeated {
@@ -157,15 +182,15 @@ fn put_next(note: &Note, start: usize, times: u32, said: &mut Vec<u8>) -> Option
     }
     end_run(times, said)?;
     let start = said.len();
-    put_note(note, said)?;
+    put_one(note, as_sizes, said)?;
     Some((start, 1))
 }
 
-fn put_notes(notes: &[Note], said: &mut Vec<u8>) -> Option<()> {
+fn put_notes(notes: &[Note], as_sizes: bool, said: &mut Vec<u8>) -> Option<()> {
     let mut start = said.len();
     let mut times = 0;
     for note in notes {
-        let next = put_next(note, start, times, said)?;
+        let next = put_next(note, as_sizes, start, times, said)?;
         start = next.0;
         times = next.1;
     }
@@ -178,22 +203,16 @@ fn notes_of(alloc: Global, stream: &[u8], size: usize) -> Option<Vec<Note>> {
 }
 
 /// The notes of the stream.
-pub struct Notes;
+#[derive(Drop)]
+pub struct Notes {
+    /// Of foreign bytes it is told how many they are.
+    pub as_sizes: bool,
+}
 
 impl InPieces for Notes {
     fn put(&self, alloc: Global, stream: &[u8], size: usize, said: &mut Vec<u8>) -> Option<()> {
         let notes = notes_of(alloc, stream, size)?;
-        put_notes(&notes, said)
-    }
-}
-
-/// How many notes the stream has.
-pub struct NoteCount;
-
-impl InPieces for NoteCount {
-    fn put(&self, alloc: Global, stream: &[u8], size: usize, said: &mut Vec<u8>) -> Option<()> {
-        let notes = notes_of(alloc, stream, size)?;
-        put_number(notes.len() as u128, b" notes\n", said)
+        put_notes(&notes, self.as_sizes, said)
     }
 }
 

@@ -6,11 +6,12 @@ use crate::events::event_of;
 use crate::fields::{first_word, lane_of};
 use crate::told::{put_line, put_number};
 use packet_codec::{
-    Event, Front, Packet, Sight, decode, encode, fits, look_at_front, reroute, routed_size,
-    see_front, size,
+    Event, FilePart, Front, Packet, Sight, decode, encode, fits, look_at_front, reroute,
+    routed_size, see_front, size,
 };
 use row_book::put_all;
 use std::alloc::Global;
+use sub_number::Bytes;
 
 /// Answers the row, if its table is one of what is written.
 pub fn answer(
@@ -21,11 +22,32 @@ pub fn answer(
     said: &mut Vec<u8>,
 ) -> Option<()> {
     match table {
-        "encode" => put_written(&event_of(alloc, words)?, said),
+        "encode" => answer_encode(alloc, words, given, said),
         "reroute" => answer_reroute(alloc, words, said),
         "decode_encode" => answer_again(alloc, given, said),
         _ => answer_respelled(table, words, given, said),
     }
+}
+
+// Bytes that are given stand behind those of the event's file.
+fn add_given(given: &[u8], event: &mut Event) -> Option<()> {
+    if given.is_empty() {
+        return Some(());
+    }
+    let file = event.file.take()?;
+    let mut bytes = file.bytes.into_vec();
+    bytes.extend_from_slice(given).ok()?;
+    event.file = Some(FilePart {
+        name: file.name,
+        bytes: Bytes::from_vec(bytes),
+    });
+    Some(())
+}
+
+fn answer_encode(alloc: Global, words: &str, given: &[u8], said: &mut Vec<u8>) -> Option<()> {
+    let mut event = event_of(alloc, words)?;
+    add_given(given, &mut event)?;
+    put_written(&event, said)
 }
 
 // Its size, and its packet, where it has one.
