@@ -11,7 +11,7 @@
 //! - `powers`: the table for these products
 //! - `laws`: that the register is linear
 //!
-//! Its tests stand in a room above it, `packet_trials`.
+//! Its tests stand in a room above it, `packet_rows`.
 #![tactic(auto)]
 
 mod laws;
