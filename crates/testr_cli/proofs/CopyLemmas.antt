@@ -30,28 +30,29 @@ same_number one other told is also =
     cc
 
 -- none of the causes is there
-no_cause : (old files : Files) (fault : OldCopyFault) → MayCopy old files → CopyFails old files fault → copy_exit_status fault ≡ 3 → ⊥
-no_cause old files Here may cause three = no_format files may.free cause
-no_cause old files OldHere may cause three = not_there files old_format_bytes may.free cause
-no_cause old files StrangeHere may cause three = no_other files may.free cause.other
-no_cause old files NoStore may cause three = not_there old old_format_bytes cause may.is_old.is
-no_cause old files NotOld may cause three = not_both old may.is_old.is cause
-no_cause old files UnknownFormat may cause three = cause.not_old may.is_old.is
-no_cause old files BadCount may cause three =
-    let both : None ≡ Some may.count = sym cause.none ∙ may.is_old.next in
+no_cause : (old : Files) (s t : Folder) (fault : OldCopyFault) → MayCopy old s.disk.published → CopyFails old fault s t → copy_exit_status fault ≡ 3 → ⊥
+no_cause old s t Here may cause three = no_format s.disk.published may.free cause.0
+no_cause old s t OldHere may cause three = not_there s.disk.published old_format_bytes may.free cause.0
+no_cause old s t StrangeHere may cause three = no_other s.disk.published may.free cause.0.other
+no_cause old s t NoStore may cause three = not_there old old_format_bytes cause.1 may.is_old.is
+no_cause old s t NotOld may cause three = not_both old may.is_old.is cause.1
+no_cause old s t UnknownFormat may cause three = cause.1.not_old may.is_old.is
+no_cause old s t BadCount may cause three =
+    let both : None ≡ Some may.count = sym cause.1.none ∙ may.is_old.next in
     cc
-no_cause old files OtherFiles may cause three =
-    let alone = may.alone cause.name cause.there in
-    cause.other (subst (λ (n : ℕ). IsCopiedFirst n cause.name) (same_number may.count cause.count _ may.is_old.next cause.is_old.next) alone.0) alone.1
-no_cause old files Site may cause three = omega (arith, three)
-no_cause old files (Shelf call) may cause three = omega (arith, three)
-no_cause old files NoMemory may cause three = omega (arith, three)
+no_cause old s t OtherFiles may cause three =
+    let found = cause.1 in
+    let alone = may.alone found.name found.there in
+    found.other (subst (λ (n : ℕ). IsCopiedFirst n found.name) (same_number may.count found.count _ may.is_old.next found.is_old.next) alone.0) alone.1
+no_cause old s t Site may cause three = omega (arith, three)
+no_cause old s t (Shelf call) may cause three = omega (arith, three)
+no_cause old s t NoMemory may cause three = omega (arith, three)
 
-never : (from : List ℕ) (site : Option Files) (a b : Option Folder) (fault : OldCopyFault) → CanCopy from site a → IfSome site (λ files. Goes a b (λ s t. CopyFails (folder_in from files) s.disk.published fault)) → copy_exit_status fault ≡ 3 → ⊥
+never : (from : List ℕ) (site : Option Files) (a b : Option Folder) (fault : OldCopyFault) → CanCopy from site a → IfSome site (λ files. Goes a b (CopyFails (folder_in from files) fault)) → copy_exit_status fault ≡ 3 → ⊥
 never from None a b fault can fails three = can
 never from (Some files) None b fault can fails three = can
 never from (Some files) (Some s) None fault can fails three = fails
-never from (Some files) (Some s) (Some t) fault can fails three = no_cause (folder_in from files) s.disk.published fault can fails three
+never from (Some files) (Some s) (Some t) fault can fails three = no_cause (folder_in from files) s t fault can fails three
 
 pub copy_complete : (from : List ℕ) (folder folder' : Seen Folder) (site site' : Seen Files) (fault : OldCopyFault) (answer : ℕ) → CopiesOld from (places folder site) (places folder' site') (Err fault) → answer ≡ copy_exit_status fault
     → CanCopy from site.told folder.told → (Rose folder.faults folder'.faults → ⊥) → (Rose site.faults site'.faults → ⊥) → answer ≡ 5
