@@ -15,10 +15,11 @@ use Rattle.run_shelf.specs.declared.faults.ShelfCall.{ShelfCall}
 use Rattle.run_shelf.specs.declared.faults.ShelfCall.TheVariants as call
 use Rattle.run_shelf.proofs.Joining.{goes_with, stays_some, some_after}
 use Rattle.run_shelf.proofs.RunLemmas.{put_here}
-use Rattle.old_copies.specs.Copying.{folder_in, IsName, Between, HasCopies, HoldsOther, StepFails, PassesCopies, ReadsCopies, Copies, GoesBy, CopyStep, Places, folder_failed, site_failed}
+use Rattle.old_copies.specs.Copying.{folder_in, IsName, Between, HasCopies, HoldsOther, StepFails, PassesCopies, ReadsCopies, Copies, GoesBy, CopyStep, Places, folder_failed, site_failed, ReadsThese, PassesThese}
 use Rattle.old_copies.specs.Looking.{IsOfFolder, IsOfSite}
 use Rattle.old_copies.specs.declared.faults.OldCopyFault.{OldCopyFault}
 use Rattle.old_copies.specs.declared.faults.OldCopyFault.TheVariants.{Here, OldHere, StrangeHere, NoStore, NotOld, UnknownFormat, BadCount, OtherFiles, Site, Shelf, NoMemory}
+use Rattle.old_copies.proofs.OtherLemmas.{still_only, still_these, put_among, put_these}
 
 -- ---- counts
 
@@ -137,6 +138,8 @@ module _ (Of : List ℕ → Type 0) (from : List ℕ) (x y : Places) (same : y.s
     refused = told_or_not from x.site.told x.folder.told y.folder.told (λ old s t. StepFails Of old s.disk.published fault) (λ old. goes_weaker x.folder.told y.folder.told Stays (λ s t. StepFails Of old s.disk.published fault) stays (λ s t is. fails old s.disk.published));
     reads = still_seen;
     any_moment = still_moments;
+    reads_these = tt;
+    passes_these = goes_weaker x.folder.told y.folder.told Stays (PassesThese Of) stays (still_these Of);
     folder = folder;
     site = site;
   }
@@ -164,6 +167,8 @@ module _ (name from : List ℕ) (x y : Places) (there here : Option (List ℕ)) 
     refused = tt;
     reads = still_seen (IsName name) from x y same stays;
     any_moment = still_moments (IsName name) from x y same stays;
+    reads_these = goes_weaker x.folder.told y.folder.told Stays (ReadsThese (IsName name)) stays (still_only (IsName name));
+    passes_these = goes_weaker x.folder.told y.folder.told Stays (PassesThese (IsName name)) stays (still_these (IsName name));
     folder = folder;
     site = site;
   }
@@ -185,6 +190,8 @@ module _ (name from : List ℕ) (x y : Places) (there here : Option (List ℕ)) 
     refused = by_known from x.site.told (λ old. old name ≡ there) x.folder.told y.folder.told (λ old s t. StepFails (IsName name) old s.disk.published OtherFiles) read_there (λ old is. goes_weaker x.folder.told y.folder.told (λ s t. (here ≡ s.disk.published name) × Stays s t) (λ s t. StepFails (IsName name) old s.disk.published OtherFiles) known_here (holds_other some differs old is));
     reads = still_seen (IsName name) from x y same stays;
     any_moment = still_moments (IsName name) from x y same stays;
+    reads_these = tt;
+    passes_these = goes_weaker x.folder.told y.folder.told Stays (PassesThese (IsName name)) stays (still_these (IsName name));
     folder = folder;
     site = site;
   }
@@ -248,6 +255,8 @@ module _ (name from : List ℕ) (x y : Places) (there here : Option (List ℕ)) 
       refused = tt;
       reads = put_seen (goes_weaker y.folder.told z.folder.told (KeepsFile name bytes) (λ s t. (t.disk.published ≡ s.disk.published) ⊎ (t.disk.published ≡ put s.disk.published name bytes)) kept (λ s t is. inr (ap (λ (d : Disk). d.published) is)));
       any_moment = put_moments passes;
+      reads_these = from_first (ReadsThese (IsName name)) (goes_weaker y.folder.told z.folder.told (KeepsFile name bytes) (ReadsThese (IsName name)) kept (put_among name bytes));
+      passes_these = from_first (PassesThese (IsName name)) (goes_weaker y.folder.told z.folder.told (PassesFile name bytes) (PassesThese (IsName name)) passes (put_these name bytes));
       folder = subst (λ (n : ℕ). RisesExactlyIf x.folder.faults n false) (sym quiet) folder;
       site = later_faults;
     }
@@ -260,6 +269,8 @@ module _ (name from : List ℕ) (x y : Places) (there here : Option (List ℕ)) 
       refused = told_or_not from x.site.told x.folder.told z.folder.told (λ old s t. StepFails (IsName name) old s.disk.published (Shelf which)) (λ old. goes_weaker x.folder.told z.folder.told (PassesFile name bytes) (λ s t. StepFails (IsName name) old s.disk.published (Shelf which)) (from_first (PassesFile name bytes) passes) (λ s t p. tt));
       reads = put_seen (goes_weaker y.folder.told z.folder.told (KeepFails name bytes which) (λ s t. (t.disk.published ≡ s.disk.published) ⊎ (t.disk.published ≡ put s.disk.published name bytes)) fails (kept_or_not name bytes which));
       any_moment = put_moments passes;
+      reads_these = tt;
+      passes_these = from_first (PassesThese (IsName name)) (goes_weaker y.folder.told z.folder.told (PassesFile name bytes) (PassesThese (IsName name)) passes (put_these name bytes));
       folder = subst (λ (n : ℕ). RisesExactlyIf n z.folder.faults true) (folder.stands refl) rose;
       site = later_faults;
     }

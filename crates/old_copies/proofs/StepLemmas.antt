@@ -5,10 +5,11 @@ use Rattle.edge_io.specs.Disk.{Files, Folder}
 use Rattle.edge_io.specs.Steps.{Goes}
 use Rattle.edge_io.proofs.Going.{goes_then, goes_weaker}
 use Rattle.run_shelf.specs.Images.{AtRest}
-use Rattle.old_copies.specs.Copying.{folder_in, Either, HasCopies, Places, StepFails, PassesCopies, ReadsCopies, Copies, GoesBy, CopyStep, folder_failed, site_failed}
+use Rattle.old_copies.specs.Copying.{folder_in, Either, HasCopies, Places, StepFails, PassesCopies, ReadsCopies, Copies, GoesBy, CopyStep, folder_failed, site_failed, ReadsThese, PassesThese}
 use Rattle.old_copies.specs.declared.faults.OldCopyFault.{OldCopyFault}
 use Rattle.old_copies.specs.declared.faults.OldCopyFault.TheVariants.{Here, OldHere, StrangeHere, NoStore, NotOld, UnknownFormat, BadCount, OtherFiles, Site, Shelf, NoMemory}
 use Rattle.old_copies.proofs.BetweenLemmas.{between_wider, both_between, copies_wider, passes_wider, other_wider, copies_then, other_back, passes_both}
+use Rattle.old_copies.proofs.OtherLemmas.{only_then, reads_wider, these_wider, these_then}
 
 -- ---- what is told
 
@@ -84,6 +85,8 @@ failed_wider {T = T} {U = U} A B from x y fault wider step = record {
   refused = by_weaker from x.site.told x.folder.told y.folder.told (λ old s t. StepFails A old s.disk.published fault) (λ old s t. StepFails B old s.disk.published fault) step.refused (λ old s t. fails_wider A B old s.disk.published wider fault);
   reads = by_weaker from x.site.told x.folder.told y.folder.told (ReadsCopies A) (ReadsCopies B) step.reads (λ old s t. between_wider A B old s.disk.published t.disk.published wider);
   any_moment = by_weaker from x.site.told x.folder.told y.folder.told (PassesCopies A) (PassesCopies B) step.any_moment (λ old. passes_wider A B old wider);
+  reads_these = tt;
+  passes_these = goes_weaker x.folder.told y.folder.told (PassesThese A) (PassesThese B) step.passes_these (these_wider A B wider);
   folder = subst (RisesExactlyIf x.folder.faults y.folder.faults) (same_folder fault) step.folder;
   site = subst (RisesExactlyIf x.site.faults y.site.faults) (same_site fault) step.site;
 }
@@ -123,6 +126,8 @@ done_same A B from x y value other wider back step = record {
   refused = tt;
   reads = by_weaker from x.site.told x.folder.told y.folder.told (ReadsCopies A) (ReadsCopies B) step.reads (λ old s t. between_wider A B old s.disk.published t.disk.published wider);
   any_moment = by_weaker from x.site.told x.folder.told y.folder.told (PassesCopies A) (PassesCopies B) step.any_moment (λ old. passes_wider A B old wider);
+  reads_these = goes_weaker x.folder.told y.folder.told (ReadsThese A) (ReadsThese B) step.reads_these (reads_wider A B wider);
+  passes_these = goes_weaker x.folder.told y.folder.told (PassesThese A) (PassesThese B) step.passes_these (these_wider A B wider);
   folder = step.folder;
   site = step.site;
 }
@@ -142,6 +147,13 @@ module _ {T : Type 0} (A B : List ℕ → Type 0) (from : List ℕ) (x y z : Pla
   reads_then : {U : Type 0} (result : Result U OldCopyFault) → CopyStep B from y z result → GoesBy from x z (ReadsCopies (Either A B))
   reads_then result second = by_then from x.site.told y.site.told x.folder.told y.folder.told z.folder.told first.same first.rest (Copies A) (ReadsCopies B) (ReadsCopies (Either A B)) first.copied second.reads (λ old s m t rest p q. both_between A B old s.disk.published m.disk.published p t.disk.published q)
 
+  others : {U : Type 0} (result : Result U OldCopyFault) → CopyStep B from y z result → Goes x.folder.told z.folder.told (PassesThese (Either A B))
+  others result second =
+      goes_then x.folder.told y.folder.told z.folder.told (λ s m. AtRest m × (ReadsThese A s m × PassesThese A s m)) (PassesThese B) (PassesThese (Either A B))
+      (goes_to x.folder.told y.folder.told (λ s m. ReadsThese A s m × PassesThese A s m) AtRest first.rest (goes_both x.folder.told y.folder.told (ReadsThese A) (PassesThese A) first.reads_these first.passes_these))
+      second.passes_these
+      (λ s m t p q. these_then A B s m p.0 p.1.0 t p.1.1 q)
+
   pub step_then : {U : Type 0} (result : Result U OldCopyFault) → CopyStep B from y z result → CopyStep (Either A B) from x z result
   step_then (Ok done) second = record {
     same = second.same ∙ first.same;
@@ -150,6 +162,8 @@ module _ {T : Type 0} (A B : List ℕ → Type 0) (from : List ℕ) (x y z : Pla
     refused = tt;
     reads = reads_then (Ok done) second;
     any_moment = moments (Ok done) second;
+    reads_these = goes_then x.folder.told y.folder.told z.folder.told (ReadsThese A) (ReadsThese B) (ReadsThese (Either A B)) first.reads_these second.reads_these (λ s m t p q. only_then A B s.disk.published m.disk.published t.disk.published p q);
+    passes_these = others (Ok done) second;
     folder = counts_then x.folder.faults y.folder.faults z.folder.faults false first.folder second.folder;
     site = counts_then x.site.faults y.site.faults z.site.faults false first.site second.site;
   }
@@ -160,6 +174,8 @@ module _ {T : Type 0} (A B : List ℕ → Type 0) (from : List ℕ) (x y z : Pla
     refused = by_then from x.site.told y.site.told x.folder.told y.folder.told z.folder.told first.same first.rest (Copies A) (λ old s t. StepFails B old s.disk.published fault) (λ old s t. StepFails (Either A B) old s.disk.published fault) first.copied second.refused (λ old s m t rest p q. fails_back A B old s.disk.published m.disk.published p fault q);
     reads = reads_then (Err fault) second;
     any_moment = moments (Err fault) second;
+    reads_these = tt;
+    passes_these = others (Err fault) second;
     folder = counts_then x.folder.faults y.folder.faults z.folder.faults _ first.folder second.folder;
     site = counts_then x.site.faults y.site.faults z.site.faults _ first.site second.site;
   }

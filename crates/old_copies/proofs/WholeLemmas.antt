@@ -14,7 +14,7 @@ use Rattle.run_shelf.specs.Images.{AtRest, PassesOld}
 use Rattle.run_shelf.specs.Outcomes.{FailsAt}
 use Rattle.run_shelf.specs.Repository.{full_name, format_name}
 use Rattle.run_shelf.proofs.Joining.{rest_images, goes_beside, goes_after, goes_with, settled_stays, some_after}
-use Rattle.old_copies.specs.Copying.{folder_in, IsName, Either, IsRunBelow, IsCopiedFirst, IsCopied, Between, HasCopies, HoldsOther, Places, places, folder_failed, site_failed, StepFails, PassesCopies, ReadsCopies, Copies, CopyStep, IsBeingCopied, PassesWay, ReadsWay, CopiesAll, IsOldFolder, PassesTaking, TakesFiles, HasOtherFiles, SameReads, CopyFails, CopiesOld}
+use Rattle.old_copies.specs.Copying.{folder_in, IsName, Either, IsRunBelow, IsCopiedFirst, IsCopied, Between, HasCopies, HoldsOther, Places, places, folder_failed, site_failed, StepFails, PassesCopies, ReadsCopies, Copies, CopyStep, IsBeingCopied, PassesWay, ReadsWay, CopiesAll, IsOldFolder, PassesTaking, TakesFiles, HasOtherFiles, SameReads, CopyFails, CopiesOld, OnlyThese, ReadsThese, PassesThese}
 use Rattle.old_copies.specs.Looking.{IsFree, HereFails, HoldsNoOther, CopyNamesFail, CopyLookFails}
 use Rattle.old_copies.specs.declared.faults.OldCopyFault.{OldCopyFault}
 use Rattle.old_copies.specs.declared.faults.OldCopyFault.TheVariants as fault
@@ -54,6 +54,8 @@ no_runs from x value rest = record {
   refused = tt;
   reads = told_or_not from x.site.told x.folder.told x.folder.told (ReadsCopies (IsRunBelow 0)) (λ old. still (ReadsCopies (IsRunBelow 0) old) x.folder.told (λ s. between_self (IsRunBelow 0) old s.disk.published));
   any_moment = told_or_not from x.site.told x.folder.told x.folder.told (PassesCopies (IsRunBelow 0)) (λ old. still (PassesCopies (IsRunBelow 0) old) x.folder.told (λ s. passes_same (λ image. IsImage s.disk image ⊎ Between (IsRunBelow 0) old s.disk.published image) s s refl refl));
+  reads_these = still (ReadsThese (IsRunBelow 0)) x.folder.told (λ s name. inl refl);
+  passes_these = still (PassesThese (IsRunBelow 0)) x.folder.told (λ s. passes_same (λ image. IsImage s.disk image ⊎ OnlyThese (IsRunBelow 0) s.disk.published image) s s refl refl);
   folder = rests x.folder.faults x.folder.faults refl;
   site = rests x.site.faults x.site.faults refl;
 }
@@ -163,8 +165,34 @@ way_beside count old is m t passes = passes_weaker (λ image. IsImage m.disk ima
     more image (inl was) = inl was
     more image (inr way) = inr (count, is, way)
 
-old_moments : (old : Files) (s t : Folder) → PassesOld s t → PassesTaking old s t
+-- the same of a stop at each moment
+abbrev PassesBeside : Files → Folder → Folder → Type 0
+PassesBeside old s t = Passes (λ image. IsImage s.disk image ⊎ TakingBeside old s.disk.published image) s t
+
+old_moments : (old : Files) (s t : Folder) → PassesOld s t → PassesBeside old s t
 old_moments old s t passes = passes_weaker (IsImage s.disk) (λ image. IsImage s.disk image ⊎ TakingBeside old s.disk.published image) (λ image was. inl was) s t passes
+
+-- what stands beside the files, where nothing is told of the other folder
+abbrev UntoldBeside : Files → Files → Type 0
+UntoldBeside files image = (count : ℕ) × OnlyThese (IsCopied count) files image
+
+abbrev PassesUntold : Folder → Folder → Type 0
+PassesUntold s t = Passes (λ image. IsImage s.disk image ⊎ UntoldBeside s.disk.published image) s t
+
+old_untold : (s t : Folder) → PassesOld s t → PassesUntold s t
+old_untold s t passes = passes_weaker (IsImage s.disk) (λ image. IsImage s.disk image ⊎ UntoldBeside s.disk.published image) (λ image was. inl was) s t passes
+
+these_untold : (count : ℕ) (s t : Folder) → PassesThese (IsCopied count) s t → PassesUntold s t
+these_untold count s t passes = passes_weaker (λ image. IsImage s.disk image ⊎ OnlyThese (IsCopied count) s.disk.published image) (λ image. IsImage s.disk image ⊎ UntoldBeside s.disk.published image) more s t passes
+  where
+    more : (image : Files) → IsImage s.disk image ⊎ OnlyThese (IsCopied count) s.disk.published image → IsImage s.disk image ⊎ UntoldBeside s.disk.published image
+    more image (inl was) = inl was
+    more image (inr only) = inr (count, only)
+
+-- by what is told of it
+taking : (from : List ℕ) (w : Option Files) (a b : Option Folder) → IfSome w (λ files. Goes a b (PassesBeside (folder_in from files))) → Goes a b PassesUntold → Goes a b (PassesTaking from w)
+taking from None a b told untold = untold
+taking from (Some files) a b told untold = told
 
 settled_reads : (s t : Folder) → Settled s t → SameReads s t
 settled_reads s t is = ap (λ (f : Folder). f.disk.published) is
@@ -254,7 +282,7 @@ stops_here from f g w bad fails passes count quiet = record {
   same = refl;
   copied = tt;
   refused = told_or_not from w.told f.told g.told (λ old. CopyFails old bad) (λ old. goes_weaker f.told g.told (HereFails bad) (CopyFails old bad) fails (here_fails old bad));
-  any_moment = told_or_not from w.told f.told g.told PassesTaking (λ old. goes_weaker f.told g.told PassesOld (PassesTaking old) passes (old_moments old));
+  any_moment = taking from w.told f.told g.told (told_or_not from w.told f.told g.told PassesBeside (λ old. goes_weaker f.told g.told PassesOld (PassesBeside old) passes (old_moments old))) (goes_weaker f.told g.told PassesOld PassesUntold passes old_untold);
   folder = count;
   site = subst (RisesExactlyIf w.faults w.faults) (sym quiet) (rests w.faults w.faults refl);
 }
@@ -273,7 +301,7 @@ module _ (from : List ℕ) (f g : Seen Folder) (w v : Seen Files) (counts : IfSo
     same = same;
     copied = tt;
     refused = by_known from w.told (λ old. CopyLookFails old bad) f.told g.told (λ old. CopyFails old bad) fails (λ old is. goes_weaker f.told g.told IsFree (CopyFails old bad) free (λ s t p. there_fails old s t p bad is));
-    any_moment = told_or_not from w.told f.told g.told PassesTaking (λ old. goes_beside f.told g.told counts settled (TakingBeside old));
+    any_moment = taking from w.told f.told g.told (told_or_not from w.told f.told g.told PassesBeside (λ old. goes_beside f.told g.told counts settled (TakingBeside old))) (goes_beside f.told g.told counts settled UntoldBeside);
     folder = subst (RisesExactlyIf f.faults g.faults) (sym quiet) folder;
     site = site;
   }
@@ -295,16 +323,19 @@ module _ (from : List ℕ) (f g : Seen Folder) (w v : Seen Files) (counts : IfSo
       same = same;
       copied = tt;
       refused = by_known from w.told (IsOldFolder count) f.told h.told (λ old. CopyFails old bad) is_old (λ old is. goes_then f.told g.told h.told IsFree (λ m t. CopyNamesFail count bad m × Stays m t) (CopyFails old bad) free (goes_with g.told h.told (CopyNamesFail count bad) Stays fails stays) (λ s m t p q. subst (λ (u : Folder). CopyFails old bad s u) (sym q.1) (names_fail old s m p count is bad q.0)));
-      any_moment = told_or_not from w.told f.told h.told PassesTaking (λ old. goes_beside f.told h.told counts settled_all (TakingBeside old));
+      any_moment = taking from w.told f.told h.told (told_or_not from w.told f.told h.told PassesBeside (λ old. goes_beside f.told h.told counts settled_all (TakingBeside old))) (goes_beside f.told h.told counts settled_all UntoldBeside);
       folder = folder;
       site = subst (RisesExactlyIf w.faults v.faults) (sym quiet) site;
     }
 
     -- the copies
     module _ (i : Seen Folder) (u : Seen Files) (alone : IfSome g.told (HoldsNoOther count)) (folder : RisesExactlyIf f.faults h.faults false) (site : RisesExactlyIf w.faults v.faults false) where
-      moments_by : (o : Option Files) → IfSome o (λ files. IsOldFolder count (folder_in from files)) → IfSome o (λ files. Goes h.told i.told (PassesWay count (folder_in from files))) → IfSome o (λ files. Goes f.told i.told (PassesTaking (folder_in from files)))
+      moments_by : (o : Option Files) → IfSome o (λ files. IsOldFolder count (folder_in from files)) → IfSome o (λ files. Goes h.told i.told (PassesWay count (folder_in from files))) → IfSome o (λ files. Goes f.told i.told (PassesBeside (folder_in from files)))
       moments_by None is way = tt
       moments_by (Some files) is way = goes_after f.told h.told counts settled_all i.told (TakingBeside (folder_in from files)) (goes_weaker h.told i.told (PassesWay count (folder_in from files)) (λ m t. Passes (λ image. IsImage m.disk image ⊎ TakingBeside (folder_in from files) m.disk.published image) m t) way (way_beside count (folder_in from files) is))
+
+      untold : Goes h.told i.told (PassesThese (IsCopied count)) → Goes f.told i.told PassesUntold
+      untold passes = goes_after f.told h.told counts settled_all i.told UntoldBeside (goes_weaker h.told i.told (PassesThese (IsCopied count)) PassesUntold passes (these_untold count))
 
       by_first : (Q : Files → Type 0) → IfSome v.told Q → IfSome w.told Q
       by_first Q known = subst (λ (o : Option Files). IfSome o Q) same known
@@ -338,7 +369,7 @@ module _ (from : List ℕ) (f g : Seen Folder) (w v : Seen Files) (counts : IfSo
         same = all.step.same ∙ same;
         copied = by_known_too w.told is_old (by_first (λ files. Goes h.told i.told (Copies (IsCopied count) (folder_in from files))) all.step.copied);
         refused = tt;
-        any_moment = moments_by w.told is_old (by_first (λ files. Goes h.told i.told (PassesWay count (folder_in from files))) all.way);
+        any_moment = taking from w.told f.told i.told (moments_by w.told is_old (by_first (λ files. Goes h.told i.told (PassesWay count (folder_in from files))) all.way)) (untold all.step.passes_these);
         folder = counts_then f.faults h.faults i.faults false folder all.step.folder;
         site = counts_then w.faults v.faults u.faults false site all.step.site;
       }
@@ -356,7 +387,7 @@ module _ (from : List ℕ) (f g : Seen Folder) (w v : Seen Files) (counts : IfSo
         same = all.step.same ∙ same;
         copied = tt;
         refused = by_refused w.told is_old (by_first (λ files. Goes h.told i.told (λ m t. StepFails (IsCopied count) (folder_in from files) m.disk.published bad)) all.step.refused) (by_first (λ files. Goes h.told i.told (ReadsWay count (folder_in from files))) all.reads);
-        any_moment = moments_by w.told is_old (by_first (λ files. Goes h.told i.told (PassesWay count (folder_in from files))) all.way);
+        any_moment = taking from w.told f.told i.told (moments_by w.told is_old (by_first (λ files. Goes h.told i.told (PassesWay count (folder_in from files))) all.way)) (untold all.step.passes_these);
         folder = counts_then f.faults h.faults i.faults _ folder all.step.folder;
         site = counts_then w.faults v.faults u.faults _ site all.step.site;
       }

@@ -1,5 +1,5 @@
 -- The old files of another folder, copied into this one (docs/FORMATS.md, "Folders of another program").
-use Rattle.std.specs.Prelude.{◌≡◌, ◌≢◌, ◌⊎◌, ⊤, ℕ, ◌<◌, Bool, true, false, Some, None, IfSome, IsSome, List, ◌∷◌, ◌++◌, Result, Err, OnOk, IfErr}
+use Rattle.std.specs.Prelude.{◌≡◌, ◌≢◌, ◌⊎◌, ⊤, ℕ, ◌<◌, Bool, true, false, Option, Some, None, IfSome, IsSome, List, ◌∷◌, ◌++◌, Result, Err, OnOk, IfErr}
 use Rattle.edge_io.specs.Causes.{RisesExactlyIf}
 use Rattle.edge_io.specs.Disk.{Files, Folder, IsImage}
 use Rattle.edge_io.specs.Moments.{Passes}
@@ -102,6 +102,18 @@ PassesCopies Of old s t = Passes (λ image. IsImage s.disk image ⊎ Between Of 
 abbrev pub ReadsCopies : (Of : List ℕ → Type 0) → (old : Files) → Folder → Folder → Type 0
 ReadsCopies Of old s t = Between Of old s.disk.published t.disk.published
 
+-- each file is as before, but for those of these names
+abbrev pub OnlyThese : (Of : List ℕ → Type 0) → (files image : Files) → Type 0
+OnlyThese Of files image = (name : List ℕ) → (image name ≡ files name) ⊎ Of name
+
+-- reads give such files
+abbrev pub ReadsThese : (Of : List ℕ → Type 0) → Folder → Folder → Type 0
+ReadsThese Of s t = OnlyThese Of s.disk.published t.disk.published
+
+-- a stop at each moment leaves what one at the first might have left, or such files
+abbrev pub PassesThese : (Of : List ℕ → Type 0) → Folder → Folder → Type 0
+PassesThese Of s t = Passes (λ image. IsImage s.disk image ⊎ OnlyThese Of s.disk.published image) s t
+
 -- the copies are there
 abbrev pub Copies : (Of : List ℕ → Type 0) → (old : Files) → Folder → Folder → Type 0
 Copies Of old s t = HasCopies Of old s.disk.published t.disk.published
@@ -118,6 +130,9 @@ pub record CopyStep {T : Type 0} (Of : List ℕ → Type 0) (from : List ℕ) (b
   pub refused : IfErr result (λ fault. GoesBy from before after (λ old s t. StepFails Of old s.disk.published fault))
   pub reads : GoesBy from before after (ReadsCopies Of)
   pub any_moment : GoesBy from before after (PassesCopies Of)
+  -- whatever is told of the other folder
+  pub reads_these : OnOk result (Goes before.folder.told after.folder.told (ReadsThese Of))
+  pub passes_these : Goes before.folder.told after.folder.told (PassesThese Of)
   pub folder : RisesExactlyIf before.folder.faults after.folder.faults (folder_failed result)
   pub site : RisesExactlyIf before.site.faults after.site.faults (site_failed result)
 
@@ -146,9 +161,15 @@ pub record IsOldFolder (count : ℕ) (old : Files) : Type 0 where
   pub is : IsOld old
   pub next : next_of old ≡ Some count
 
--- the same of a number that is not given
-abbrev pub PassesTaking : (old : Files) → Folder → Folder → Type 0
-PassesTaking old s t = Passes (λ image. IsImage s.disk image ⊎ ((count : ℕ) × IsOldFolder count old × IsBeingCopied count old s.disk.published image)) s t
+-- Files on the way, where the other folder is of these files of the system, and of the original tool. Where those are not told,
+-- only files of names differ that are copied.
+abbrev pub IsOnWay : (from : List ℕ) → Option Files → (files image : Files) → Type 0
+IsOnWay from None files image = (count : ℕ) × OnlyThese (IsCopied count) files image
+IsOnWay from (Some told) files image = (count : ℕ) × IsOldFolder count (folder_in from told) × IsBeingCopied count (folder_in from told) files image
+
+-- a stop at each moment leaves what one at the first might have left, or files on the way
+abbrev pub PassesTaking : (from : List ℕ) → Option Files → Folder → Folder → Type 0
+PassesTaking from told s t = Passes (λ image. IsImage s.disk image ⊎ IsOnWay from told s.disk.published image) s t
 
 -- The folder here was none of the two tools, and held no file but those of the other one. It is a folder of the original tool
 -- now: its files are those of the other one, as many runs as that tells.
@@ -200,6 +221,6 @@ pub record CopiesOld (from : List ℕ) (before after : Places) (result : Result 
   pub same : after.site.told ≡ before.site.told
   pub copied : OnOk result (GoesBy from before after TakesFiles)
   pub refused : IfErr result (λ fault. GoesBy from before after (λ old. CopyFails old fault))
-  pub any_moment : GoesBy from before after PassesTaking
+  pub any_moment : Goes before.folder.told after.folder.told (PassesTaking from before.site.told)
   pub folder : RisesExactlyIf before.folder.faults after.folder.faults (folder_failed result)
   pub site : RisesExactlyIf before.site.faults after.site.faults (site_failed result)
