@@ -1,8 +1,8 @@
 //! Programs of a run that are not read to their ends, or not waited for.
 
 use crate::breaking::{Fault, Object};
-use crate::scripts::{A_AND_B, A_PASSED, B_PASSED, ENDED, NEVER, RUN, Script};
-use crate::trying::{is_left, play};
+use crate::scripts::{A_AND_B, A_PASSED, B_PASSED, ENDED, NEVER, RUN};
+use crate::trying::{is_left, play_over};
 use edge_io::Finish;
 use std::sync::Wait;
 use std::test::Fail;
@@ -29,16 +29,12 @@ fn listing_is_told_of<R: Threads + Wait + Sync + AllocGlobal>(
     finish: Finish,
 ) -> Result<bool, Fail> {
     let outputs = [(output, finish), (A_PASSED, ENDED), (B_PASSED, ENDED)];
-    let script = Script {
-        outputs: &outputs,
-        ..RUN
-    };
-    let mut left = play(rt, &script, NO_FAULT, &[])?;
+    let mut left = play_over(rt, &RUN, &outputs, NO_FAULT, &[])?;
     Ok(
         left.told
             .is(4, NOTHING, b"testr: fault reading a program\n")
             && left.project.spawner.started().len() == 1
-            && is_left(rt, &script, &mut left.shelf, false)?,
+            && is_left(rt, &RUN, &mut left.shelf, false)?,
     )
 }
 
@@ -74,11 +70,7 @@ fn worker_is_told_of<R: Threads + Wait + Sync + AllocGlobal>(
     finish: Finish,
 ) -> Result<bool, Fail> {
     let outputs = [(A_AND_B, ENDED), (output, finish), (B_PASSED, ENDED)];
-    let script = Script {
-        outputs: &outputs,
-        ..RUN
-    };
-    let mut left = play(rt, &script, NO_FAULT, &[])?;
+    let mut left = play_over(rt, &RUN, &outputs, NO_FAULT, &[])?;
     Ok(
         left.told.status == 1
             && reports_read_fault(&left.told.out)

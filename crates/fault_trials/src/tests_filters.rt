@@ -55,8 +55,8 @@ const X_AND_END: &[u8] =
     b"\xb3\x21\x40\x10\x05stdin\x01x\x27\x0e\x94\xd9\xb3\x21\x10\x08\x53\x15\x88\xdc";
 
 // The text of a test is written once its packet, or its line, has been read; or all stands at the end. An input is read five bytes
-// at a time, and then its end. Of the last two it stays unread, and the file is read at once, and then its end.
-const FILTERS: [Script<'static>; 14] = [
+// at a time, and then its end. Of the last one it stays unread, and the file is read at once, and then its end.
+const FILTERS: [Script<'static>; 6] = [
     // The line of the log ends where the packet behind it does.
     Script {
         words: &["subunit-filter"],
@@ -97,6 +97,18 @@ const FILTERS: [Script<'static>; 14] = [
         written: 2,
         ..FILTER
     },
+    Script {
+        words: &["subunit-filter", "log"],
+        files: &[(b"log", PASSED_AND_FAILED)],
+        input: b"x",
+        out: LOG_AND_FAILED,
+        files_read: 2,
+        ..FILTER
+    },
+];
+
+// Those that read or write another format, or make events of words. Of the last one the input stays unread.
+const CONVERSIONS: [Script<'static>; 8] = [
     // A comment may still come, so the test stands at the end.
     Script {
         words: &["tap2subunit"],
@@ -159,18 +171,16 @@ const FILTERS: [Script<'static>; 14] = [
         out: FOO,
         ..FILTER
     },
-    Script {
-        words: &["subunit-filter", "log"],
-        files: &[(b"log", PASSED_AND_FAILED)],
-        input: b"x",
-        out: LOG_AND_FAILED,
-        files_read: 2,
-        ..FILTER
-    },
 ];
 
 #[test]
 fn each_call_of_a_filter_may_fail(rt: HostRuntime) -> Result<(), Fail> {
     assert_eq!(rt; first_wrong(&rt, &FILTERS)?, None);
+    Ok(())
+}
+
+#[test]
+fn each_call_of_a_conversion_may_fail(rt: HostRuntime) -> Result<(), Fail> {
+    assert_eq!(rt; first_wrong(&rt, &CONVERSIONS)?, None);
     Ok(())
 }

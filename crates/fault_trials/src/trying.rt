@@ -2,7 +2,7 @@
 
 use crate::breaking::{Fault, OBJECTS, Object};
 use crate::scripts::{Answers, EARLIER, Found, NEVER, Script, folder};
-use edge_io::{ListSink, ListSource, MemShelf, Shelf};
+use edge_io::{Finish, ListSink, ListSource, MemShelf, Shelf};
 use std::alloc::Global;
 use std::sync::Wait;
 use std::test::Fail;
@@ -73,12 +73,23 @@ pub fn play<R: Threads + Wait + Sync + AllocGlobal>(
     fault: Fault,
     errors: &[u64],
 ) -> Result<Left, Fail> {
+    play_over(rt, script, script.outputs, fault, errors)
+}
+
+/// The same, where the programs that are started give this and end so.
+pub fn play_over<R: Threads + Wait + Sync + AllocGlobal>(
+    rt: &R,
+    script: &Script<'_>,
+    outputs: &[(&[u8], Finish)],
+    fault: Fault,
+    errors: &[u64],
+) -> Result<Left, Fail> {
     let alloc = rt.alloc();
     let calls = [fault.call];
     let mut shelf = folder(alloc, script.found, fault.of(Object::Folder, &calls))?;
     let reads = fault.of(Object::Files, &calls);
     let starts = fault.of(Object::Spawner, &calls);
-    let mut project = project_with(alloc, script.files, script.outputs, reads, starts)?;
+    let mut project = project_with(alloc, script.files, outputs, reads, starts)?;
     let told = tell(rt, script, fault, errors, &mut shelf, &mut project)?;
     Ok(Left {
         told,
