@@ -298,8 +298,17 @@ def a_file_of_ids_is_found_from_elsewhere():
     write(other, ".testr.conf", b"[DEFAULT]\n  test_command=sed 's,^,packets/,' $IDFILE |\n    xargs cat\n")
     check_answer(run(other, "run", "--load-list=wanted"), 0, report([], 2, 1), "run in a folder with a blank")
     check_clean(other)
-    write(other, ".testr.conf", b"[DEFAULT]\ntest_command=cat packets/a\ninstance_execute=ssh $INSTANCE_ID\n")
-    check_answer(run(other, "run"), 3, b"", "run on other machines", b"testr: .testr.conf: instance_execute is not known\n")
+
+
+@case
+def a_worker_runs_on_an_instance():
+    """Each command leaves a line, so that their order is seen; the end of the instance is not well, and changes nothing."""
+    need_command("run")
+    folder = project(conf="[DEFAULT]\ntest_command=cat packets/a\ninstance_provision=echo make $INSTANCE_COUNT >> lines; echo box\ninstance_execute=echo on $INSTANCE_ID >> lines; $COMMAND\ninstance_dispose=echo drop $INSTANCE_IDS >> lines; exit 3\n")
+    check_answer(run(folder, "run"), 0, report([], 1, 0), "run on an instance", b"testr: disposing ended with 3\n")
+    with open(os.path.join(folder, "lines"), "rb") as file:
+        check(file.read() == b"make 1\non box\ndrop box\n", "other commands were run")
+    check_clean(folder)
 
 
 @case

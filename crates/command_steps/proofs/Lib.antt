@@ -18,3 +18,4 @@ pub mod TimesLemmas
 pub mod PlanLemmas
 pub mod WorkLemmas
 pub mod FindingLemmas
+pub mod InstanceLemmas

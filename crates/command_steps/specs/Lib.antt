@@ -18,6 +18,7 @@ pub mod Asking
 pub mod Refreshing
 pub mod Telling
 pub mod SuiteTexts
+pub mod Instances
 pub mod Upgrading
 pub mod Refusals
 pub mod Selecting

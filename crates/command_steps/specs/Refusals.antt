@@ -10,6 +10,7 @@ use Rattle.command_steps.specs.Recording.{record_exit_status, record_text}
 use Rattle.command_steps.specs.Reporting.{memory_text, print_text}
 use Rattle.command_steps.specs.Told.{tell_exit_status, tell_text}
 use Rattle.command_steps.specs.SuiteTexts.{conf_exit_status, conf_text, pattern_exit_status, pattern_text, list_exit_status, list_text, bad_line_text, times_exit_status, times_text, call_exit_status, call_said, call_text, table_exit_status, table_text, listing_exit_status, listing_said, listing_refusal_text, job_exit_status, job_text, start_exit_status, start_text, lanes_exit_status, lanes_text, search_exit_status, search_text, long_id_text}
+use Rattle.command_steps.specs.Instances.{provision_code, provision_said, provision_text}
 use Rattle.command_steps.specs.Verdicts.{verdict_exit_status}
 use Rattle.suite_causes.specs.declared.cause_search.SearchFault.TheVariants as search_fault
 use Rattle.suite_plan.specs.declared.count_command.CallRefusal.TheVariants as call
@@ -17,6 +18,7 @@ use Rattle.suite_plan.specs.declared.conf_file.ConfRefusal.TheVariants as conf
 use Rattle.suite_plan.specs.declared.test_listing.ListingRefusal.TheVariants as listing
 use Rattle.suite_plan.specs.declared.load_list.ListRefusal.TheVariants as load_list
 use Rattle.suite_plan.specs.declared.processors.TableRefusal.TheVariants as table
+use Rattle.suite_plan.specs.declared.provisioning.ProvisionRefusal.TheVariants as provision
 use Rattle.suite_run.specs.declared.lane_recorder.LanesRefusal.TheVariants as lanes
 use Rattle.suite_run.specs.declared.lane_starter.StartRefusal.TheVariants as start
 use Rattle.command_steps.specs.declared.input_recorder.RecordFault.TheVariants as record_fault
@@ -26,7 +28,7 @@ use Rattle.old_upgrade.specs.declared.faults.UpgradeFault.TheVariants as upgrade
 use Rattle.command_steps.specs.Upgrading.{upgrade_exit_status, upgrade_text}
 use Rattle.command_steps.specs.declared.answer.Verdict.{Verdict}
 use Rattle.command_steps.specs.declared.answer.Refusal.{Refusal}
-use Rattle.command_steps.specs.declared.answer.Refusal.TheVariants.{Usage, Init, Open, Runs, Record, Memory, Keep, Refresh, Tell, Print, Conf, Pattern, LoadList, PatternLine, TimesFile, Call, Table, Listing, Job, Start, Lanes, Report, Suspects, Ran, Search, LongId, Upgrade}
+use Rattle.command_steps.specs.declared.answer.Refusal.TheVariants.{Usage, Init, Open, Runs, Record, Memory, Keep, Refresh, Tell, Print, Conf, Pattern, LoadList, PatternLine, TimesFile, Call, Table, Listing, Provision, Job, Start, Lanes, Report, Suspects, Ran, Search, LongId, Upgrade}
 
 -- the exit status of a refusal: 2 for wrong usage, 3 for what a command does not take, 4 where a call failed, 5 where
 -- memory was wanting
@@ -49,6 +51,7 @@ refusal_exit_status (TimesFile fault) = times_exit_status fault
 refusal_exit_status (Call fault) = call_exit_status fault
 refusal_exit_status (Table fault) = table_exit_status fault
 refusal_exit_status (Listing fault) = listing_exit_status fault
+refusal_exit_status (Provision fault) = provision_code fault
 refusal_exit_status (LongId fault) = 3
 refusal_exit_status (Job fault) = job_exit_status fault
 refusal_exit_status (Start fault) = start_exit_status fault
@@ -83,6 +86,7 @@ refusal_line (TimesFile fault) = times_text fault
 refusal_line (Call fault) = call_text fault
 refusal_line (Table fault) = table_text fault
 refusal_line (Listing fault) = listing_refusal_text fault
+refusal_line (Provision fault) = provision_text fault
 refusal_line (LongId fault) = long_id_text
 refusal_line (Job fault) = job_text fault
 refusal_line (Start fault) = start_text fault
@@ -97,6 +101,7 @@ refusal_line (Upgrade fault) = upgrade_text fault
 abbrev pub refusal_said : Refusal → List ℕ
 refusal_said (Call fault) = call_said fault
 refusal_said (Listing fault) = listing_said fault
+refusal_said (Provision fault) = provision_said fault
 refusal_said refusal = []
 
 -- what is told of a refusal: that, and the line
@@ -120,6 +125,7 @@ fault_place_of (TimesFile times_file.Site) = Some in_site
 fault_place_of (Call call.Spawn) = Some in_spawner
 fault_place_of (Table table.Site) = Some in_site
 fault_place_of (Listing listing.Spawn) = Some in_spawner
+fault_place_of (Provision provision.Spawn) = Some in_spawner
 fault_place_of (Start start.Spawn) = Some in_spawner
 fault_place_of (Lanes (lanes.Shelf which)) = Some in_folder
 fault_place_of (Ran tell_fault.Shelf) = Some in_folder

@@ -35,8 +35,6 @@ use Rattle.testr_conf.specs.declared.fault.JobFault.{JobFault}
 use Rattle.testr_conf.specs.declared.fault.JobFault.TheVariants as job
 use Rattle.testr_conf.specs.declared.fault.Key.{Key}
 use Rattle.testr_conf.specs.declared.fault.Key.TheVariants as key
-use Rattle.testr_conf.specs.declared.fault.MachineKey.{MachineKey}
-use Rattle.testr_conf.specs.declared.fault.MachineKey.TheVariants as machine
 
 -- the line where a file of the project is not read
 abbrev pub project_file_text : List ℕ
@@ -68,12 +66,6 @@ conf_exit_status conf.Absent = 3
 conf_exit_status (conf.Bad file why) = 3
 conf_exit_status conf.NoMemory = 5
 
--- the key of machines
-abbrev pub machine_text : MachineKey → List ℕ
-machine_text machine.Provision = codes "instance_provision"
-machine_text machine.Execute = codes "instance_execute"
-machine_text machine.Dispose = codes "instance_dispose"
-
 -- the key of the table of stestr
 abbrev pub table_key_text : TableKey → List ℕ
 table_key_text table_key.TestPath = codes "test_path"
@@ -93,7 +85,7 @@ bad_conf_text bad.TooLong = codes " is too long\n"
 bad_conf_text (bad.BadLine number) = codes " line " ++ decimal number ++ codes ": not a setting\n"
 bad_conf_text (bad.NoSection number) = codes " line " ++ decimal number ++ codes ": outside a section\n"
 bad_conf_text (bad.Repeated number) = codes " line " ++ decimal number ++ codes ": repeated\n"
-bad_conf_text (bad.NotKnown key) = codes ": " ++ machine_text key ++ codes " is not known\n"
+bad_conf_text bad.NoInstances = codes ": no instances were provisioned\n"
 bad_conf_text bad.NoCommand = codes ": no test_command\n"
 bad_conf_text bad.NoTestPath = codes ": no test_path\n"
 bad_conf_text bad.NotToml = codes ": no TOML\n"

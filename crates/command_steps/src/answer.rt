@@ -4,6 +4,7 @@ ghost use Rattle.std.specs.Prelude.{◌≡◌};
 ghost use Rattle.command_steps.specs.Telling.{line_text};
 
 use crate::input_recorder::RecordFault;
+use crate::instances::{provision_code, provision_line, provision_said};
 use crate::question_answers::TellFault;
 use crate::refusal_line::{Line, Refuses};
 use crate::run_copy::CopyFault;
@@ -23,7 +24,7 @@ use sub_number::NoMemory;
 use suite_causes::SearchFault;
 use suite_plan::{
     BadLine, CallRefusal, ConfRefusal, ListRefusal, ListingRefusal, PatternListRefusal,
-    PatternRefusal, TableRefusal,
+    PatternRefusal, ProvisionRefusal, TableRefusal,
 };
 use suite_run::{LanesRefusal, StartRefusal};
 use testr_conf::JobFault;
@@ -90,6 +91,8 @@ pub enum Refusal<'a> {
     Table(TableRefusal),
     /// The tests were not listed.
     Listing(ListingRefusal),
+    /// No instances were provisioned.
+    Provision(ProvisionRefusal),
     /// An id of a test is too long to be told of.
     LongId(LongId),
     /// The workers' jobs were not made.
@@ -353,6 +356,7 @@ impl<'a> Refusal<'a> {
             Refusal::Call(refusal) => call_exit_status(refusal),
             Refusal::Table(refusal) => (*refusal).exit_status(),
             Refusal::Listing(refusal) => listing_exit_status(refusal),
+            Refusal::Provision(refusal) => provision_code(refusal),
             Refusal::Job(fault) => (*fault).exit_status(),
             Refusal::Start(refusal) => (*refusal).exit_status(),
             Refusal::Lanes(refusal) => (*refusal).exit_status(),
@@ -368,6 +372,7 @@ impl<'a> Refusal<'a> {
         match self {
             Refusal::Call(refusal) => call_said(refusal),
             Refusal::Listing(refusal) => listing_said(refusal),
+            Refusal::Provision(refusal) => provision_said(refusal),
             _ => b"",
         }
     }
@@ -399,6 +404,7 @@ impl<'a> Refusal<'a> {
             Refusal::Call(refusal) => return call_line(refusal),
             Refusal::Table(refusal) => return (*refusal).line(),
             Refusal::Listing(refusal) => return listing_line(refusal),
+            Refusal::Provision(refusal) => return provision_line(refusal),
             Refusal::LongId(fault) => return (*fault).line(),
             Refusal::Job(fault) => return (*fault).line(),
             Refusal::Start(refusal) => return (*refusal).line(),

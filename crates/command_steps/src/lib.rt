@@ -13,6 +13,7 @@
 //! - `live_lines`: what is said of a run while it goes on
 //! - `times_file`: times that a file holds
 //! - `test_selection`, `work_plan`, `worker_run`: which tests run, what each worker is started with, and the workers themselves
+//! - `instances`: what the tests run on, provided in front of a run and disposed of behind it
 //! - `folder_upgrade`: a folder of the original tool, made a repository
 //! - `causes`: which test makes another one fail
 //! - `answer`, `usage`, `suite_refusals`: the verdict of a command, and the refusals by step
@@ -27,6 +28,7 @@ mod causes;
 mod files;
 mod folder_upgrade;
 mod input_recorder;
+mod instances;
 mod ledger_queries;
 mod live_lines;
 mod question_answers;
@@ -48,6 +50,9 @@ pub use causes::find_causes;
 pub use files::{Recorded, record_sources};
 pub use folder_upgrade::{print_upgraded, upgrade_folder};
 pub use input_recorder::RecordFault;
+pub use instances::{
+    Provided, Unprovided, dispose, provide, provision_code, provision_line, provision_said,
+};
 pub use live_lines::{Silenced, say_end};
 pub use question_answers::{TellFault, Told, find_answer};
 pub use refusal_line::{Line, Part, tell_line};
@@ -58,7 +63,9 @@ pub use store::{
     KeepFault, RunsFault, check_has_run, check_next_number, keep_run, make_store,
     make_store_where_none, open_store, start_run,
 };
-pub use test_selection::{Further, FurtherRefusal, Selected, read_further, read_ids, select_tests};
+pub use test_selection::{
+    Further, FurtherRefusal, Selected, count_workers, read_further, read_ids, select_tests,
+};
 pub use times_file::{MOST_TIMES, TimesRefusal};
 pub use usage::UsageFault;
 pub use work_plan::{LongId, WorkPlan, plan_workers};

@@ -2,7 +2,7 @@
 
 ghost use Rattle.std.specs.Prelude.{◌≡◌, ◌++◌, codes};
 ghost use Rattle.std.specs.Fmt.{decimal, signed_decimal};
-ghost use Rattle.command_steps.specs.SuiteTexts.{bad_line_text, end_of_pattern, has_look_around, is_look_around, call_exit_status, call_said, call_text, listing_exit_status, listing_said, listing_refusal_text, key_text, machine_text, table_key_text, conf_file_text, bad_conf_text};
+ghost use Rattle.command_steps.specs.SuiteTexts.{bad_line_text, end_of_pattern, has_look_around, is_look_around, call_exit_status, call_said, call_text, listing_exit_status, listing_said, listing_refusal_text, key_text, table_key_text, conf_file_text, bad_conf_text};
 ghost use Rattle.command_steps.specs.Telling.{line_text};
 
 use crate::files::name_of;
@@ -15,15 +15,15 @@ use suite_plan::{
     PatternRefusal, TableRefusal,
 };
 use suite_run::{LanesRefusal, StartRefusal};
-use testr_conf::{JobFault, Key, MachineKey};
+use testr_conf::{JobFault, Key};
 
-const OUT_OF_MEMORY: &str = "testr: out of memory\n";
+pub(crate) const OUT_OF_MEMORY: &str = "testr: out of memory\n";
 
 const FAULT_OF_A_FILE: &str = "testr: fault reading a file\n";
 
-const FAULT_OF_A_START: &str = "testr: fault starting a program\n";
+pub(crate) const FAULT_OF_A_START: &str = "testr: fault starting a program\n";
 
-const FAULT_OF_A_CHILD: &str = "testr: fault reading a program\n";
+pub(crate) const FAULT_OF_A_CHILD: &str = "testr: fault reading a program\n";
 
 impl<'a> Refuses<'a> for ConfRefusal {
     ghost use Rattle.command_steps.specs.SuiteTexts.{conf_exit_status, conf_text};
@@ -70,23 +70,12 @@ fn conf_line(name: &'static str, why: BadConf) -> Line<'static>
         BadConf::BadLine(number) => conf_line_at(name, number, ": not a setting\n"),
         BadConf::NoSection(number) => conf_line_at(name, number, ": outside a section\n"),
         BadConf::Repeated(number) => conf_line_at(name, number, ": repeated\n"),
-        BadConf::NotKnown(key) => conf_line_of(name, machine_rest(key)),
+        BadConf::NoInstances => conf_line_of(name, ": no instances were provisioned\n"),
         BadConf::NoCommand => conf_line_of(name, ": no test_command\n"),
         BadConf::NoTestPath => conf_line_of(name, ": no test_path\n"),
         BadConf::NotToml => conf_line_of(name, ": no TOML\n"),
         BadConf::NotTable => conf_line_of(name, ": tool.stestr is no table\n"),
         BadConf::BadValue(key) => conf_line_of(name, value_rest(key)),
-    }
-}
-
-// What is told behind the name where the configuration has this key of machines.
-fn machine_rest(key: MachineKey) -> &'static str
-    ensures { result.now ≡ codes ": " ++ machine_text key ++ codes " is not known\n" }
-{
-    match key {
-        MachineKey::Provision => ": instance_provision is not known\n",
-        MachineKey::Execute => ": instance_execute is not known\n",
-        MachineKey::Dispose => ": instance_dispose is not known\n",
     }
 }
 

@@ -226,8 +226,9 @@ fn failing_ids<H: Shelf>(
     Ok(Some(find_failing(alloc, shelf, found)?))
 }
 
-// The number of workers, at least 1 and at most so many as a run may have.
-fn count_workers<S: Spawner, F: Site>(
+/// The number of workers, at least 1 and at most so many as a run may have: what the words say, what the project's own command
+/// calls out, or the number of processors.
+pub fn count_workers<S: Spawner, F: Site>(
     alloc: Global,
     conf: &Conf,
     parallel: bool,
@@ -239,6 +240,7 @@ fn count_workers<S: Spawner, F: Site>(
         (work folder (F.seen site.old) (S.seen spawner.old) input out)
         (work folder (F.seen site.new) (S.seen spawner.new) input out)
         result }
+    ensures path { F.folder site.new ≡ F.folder site.old }
     ensures range { IfOk result IsInRange }
 {
     if !parallel {

@@ -143,14 +143,15 @@ pub const PROJECT: NamedFiles<'static> = &[(
 /// A run of two workers: the tests are listed, and each worker passes one of them.
 ///
 /// Four calls look at the runs, two read the times, one begins the run, two add to it, and three keep it. Two more read the times,
-/// and each cache takes five. The configuration is read, and then its end.
+/// and each cache takes five. The configuration is read, and then its end: to see whether the project asks for instances, and once
+/// more for the run.
 pub const RUN: Script<'static> = Script {
     words: &["testr", "run", "--parallel", "--concurrency=2"],
     files: PROJECT,
     outputs: &[(A_AND_B, ENDED), (A_PASSED, ENDED), (B_PASSED, ENDED)],
     out: b"Ran 2 tests\nPASSED (id=1)\n",
     folder: 24,
-    files_read: 2,
+    files_read: 4,
     started: 3,
     named: 10,
     behind: OF_TWO_RUNS,

@@ -73,13 +73,13 @@ const INIT: Script<'static> = Script {
     ..QUIET
 };
 
-// The configuration is read, and then its end. The folder is not called.
+// The configuration is read twice, and its end each time. The folder is not called.
 const LISTING: Script<'static> = Script {
     words: &["testr", "list-tests"],
     files: PROJECT,
     outputs: &[(A_AND_B, ENDED)],
     out: b"a\nb\n",
-    files_read: 2,
+    files_read: 4,
     started: 1,
     ..QUIET
 };

@@ -75,10 +75,24 @@ fn put_run_job(alloc: Global, conf: &Conf, words: &str, said: &mut Vec<u8>) -> O
     put_made(alloc, &conf.run_job(alloc, Some(&ids), lane), said)
 }
 
-fn put_count_job(alloc: Global, conf: &Conf, said: &mut Vec<u8>) -> Option<()> {
-    match conf.count_job(alloc).ok()? {
+fn put_wanted(job: Option<Job>, said: &mut Vec<u8>) -> Option<()> {
+    match job {
         Some(job) => put_job(&job, said),
         None => put_line(b"none", said),
+    }
+}
+
+// The job that provisions so many instances, as `provision_job=12` says.
+fn put_provision_job(alloc: Global, conf: &Conf, words: &str, said: &mut Vec<u8>) -> Option<()> {
+    let count: u32 = words.parse().ok()?;
+    put_wanted(conf.provision_job(alloc, count).ok()?, said)
+}
+
+fn put_asks(conf: &Conf, said: &mut Vec<u8>) -> Option<()> {
+    if conf.asks_instances() {
+        put_line(b"yes", said)
+    } else {
+        put_line(b"no", said)
     }
 }
 
@@ -95,7 +109,10 @@ fn put_fact(alloc: Global, conf: &Conf, name: &str, words: &str, said: &mut Vec<
     match name {
         "list_job" => put_made(alloc, &conf.list_job(alloc), said),
         "run_job" => put_run_job(alloc, conf, words, said),
-        "count_job" => put_count_job(alloc, conf, said),
+        "count_job" => put_wanted(conf.count_job(alloc).ok()?, said),
+        "provision_job" => put_provision_job(alloc, conf, words, said),
+        "dispose_job" => put_wanted(conf.dispose_job(alloc).ok()?, said),
+        "asks_instances" => put_asks(conf, said),
         "group_regex" => put_pattern(conf.group_regex(), said),
         "filter_tags" => put_texts(conf.filter_tags().list(), said),
         _ => None,
@@ -106,7 +123,9 @@ fn put_fact(alloc: Global, conf: &Conf, name: &str, words: &str, said: &mut Vec<
 fn put_word(alloc: Global, conf: &Conf, word: &str, said: &mut Vec<u8>) -> Option<()> {
     let (name, words) = word.split_once('=').unwrap_or((word, ""));
     match name {
-        "stand_in" | "with_arguments" | "grouped_by" | "test_path" | "top_dir" => Some(()),
+        "stand_in" | "with_arguments" | "grouped_by" | "on_instances" | "test_path" | "top_dir" => {
+            Some(())
+        }
         _ => {
             put_all(&[name.as_bytes(), b" -> "], said)?;
             put_fact(alloc, conf, name, words, said)
@@ -140,8 +159,16 @@ fn grouped_by(alloc: Global, conf: Conf, words: &str) -> Option<Conf> {
     Some(conf.grouped_by(pattern))
 }
 
+fn on_instances(alloc: Global, conf: Conf, words: &str) -> Option<Conf> {
+    match field(words, "on_instances=") {
+        Some(list) => Some(conf.on_instances(ids_of(alloc, list, ',')?)),
+        None => Some(conf),
+    }
+}
+
 fn changed(alloc: Global, conf: Conf, words: &str) -> Option<Conf> {
     let conf = stand_in(alloc, conf, words)?;
+    let conf = on_instances(alloc, conf, words)?;
     let conf = with_arguments(alloc, conf, words)?;
     grouped_by(alloc, conf, words)
 }

@@ -19,6 +19,8 @@ mod tests_causes;
 #[cfg(test)]
 mod tests_children;
 #[cfg(test)]
+mod tests_instances;
+#[cfg(test)]
 mod tests_limits;
 #[cfg(test)]
 mod tests_listing;

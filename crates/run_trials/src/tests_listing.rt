@@ -255,7 +255,7 @@ const NO_COMMAND: &[u8] = b"testr: .testr.conf: no test_command\n";
 
 const NO_LIST_OPTION: &[u8] = b"testr: .testr.conf: test_list_option is needed\n";
 
-const REFUSED: [(&[u8], &[u8]); 8] = [
+const REFUSED: [(&[u8], &[u8]); 7] = [
     (b"x=1\n", b"testr: .testr.conf line 1: outside a section\n"),
     (
         b"[DEFAULT]\n  y\n",
@@ -264,10 +264,6 @@ const REFUSED: [(&[u8], &[u8]); 8] = [
     (
         b"[DEFAULT]\ntest_command=a\ntest_command=b\n",
         b"testr: .testr.conf line 3: repeated\n",
-    ),
-    (
-        b"[DEFAULT]\ntest_command=a\ninstance_execute=x\n",
-        b"testr: .testr.conf: instance_execute is not known\n",
     ),
     (b"", NO_COMMAND),
     (b"[DEFAULT]\ntest_command=\n", NO_COMMAND),

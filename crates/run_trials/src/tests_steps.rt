@@ -145,7 +145,7 @@ fn words_and_configuration_come_first(rt: HostRuntime) -> Result<(), Fail> {
         (
             Scene {
                 files: &[(b".testr.conf", BAD_LINE)],
-                reads: &[2],
+                reads: &[4],
                 ..WORST
             },
             0,
@@ -218,7 +218,7 @@ fn a_run_makes_a_repository_on_the_way(rt: HostRuntime) -> Result<(), Fail> {
 fn the_repository_comes_before_the_patterns(rt: HostRuntime) -> Result<(), Fail> {
     let scene = Scene {
         files: &[(b".testr.conf", BAD_GROUPS)],
-        reads: &[2],
+        reads: &[4],
         ..WORST
     };
     let rows = [
@@ -262,7 +262,7 @@ fn patterns_come_before_the_list_of_ids(rt: HostRuntime) -> Result<(), Fail> {
     let scene = Scene {
         files: &[(b".testr.conf", BAD_GROUPS)],
         runs: ONE_RUN,
-        reads: &[2],
+        reads: &[4],
         calls: BEHIND_THE_RUNS,
         ..WORST
     };
@@ -298,7 +298,7 @@ fn the_list_of_ids_comes_before_the_failing_set(rt: HostRuntime) -> Result<(), F
         words: ALL_GOOD,
         files: &[(b".testr.conf", COUNTED), (b"l", b"a\n\n\xff\n\xff\n")],
         runs: ONE_RUN,
-        reads: &[2],
+        reads: &[4],
         calls: BEHIND_THE_RUNS,
         ..WORST
     };
@@ -365,7 +365,7 @@ fn lists_of_patterns_come_between_the_two(rt: HostRuntime) -> Result<(), Fail> {
     let rows = [
         (
             Scene {
-                reads: &[4],
+                reads: &[6],
                 ..scene
             },
             0,
@@ -412,7 +412,7 @@ fn the_number_of_workers_comes_before_the_listing(rt: HostRuntime) -> Result<(),
         words: COUNTING,
         files: &[(b".testr.conf", COUNTED)],
         runs: ONE_RUN,
-        reads: &[2],
+        reads: &[4],
         calls: BEHIND_THE_RUNS,
         starts: &[1],
         ..WORST
@@ -475,7 +475,7 @@ fn the_table_of_processors_comes_before_the_listing(rt: HostRuntime) -> Result<(
         files: &[(b".testr.conf", COUNTED)],
         outputs: &[(b"0", ENDED)],
         runs: ONE_RUN,
-        reads: &[2],
+        reads: &[4],
         calls: BEHIND_THE_RUNS,
         starts: &[1],
         ..WORST

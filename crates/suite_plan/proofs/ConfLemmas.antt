@@ -1,6 +1,6 @@
 -- The ends of the reading of the configuration.
 use Rattle.std.specs.Prelude.{⊤}
-use Rattle.std.proofs.Common.{◌≡◌, ◌⊎◌, ⊎_elim, ◌≤◌, ◌<◌, ℕ, nat_lt, List, length, Option, None, Some, IfSome, IsSomeAnd, IfOk, IfErr, Result, Ok, Err, false, true≢false, refl, sym, ap, subst, ◌∙◌, lt-ltb, le-ltb}
+use Rattle.std.proofs.Common.{◌≡◌, ◌⊎◌, ⊎_elim, ◌≤◌, ◌<◌, ℕ, nat_lt, Bool, true, cond, List, length, Option, None, Some, IfSome, IsSomeAnd, IfOk, IfErr, Result, Ok, Err, false, true≢false, refl, sym, ap, subst, ◌∙◌, lt-ltb, le-ltb}
 use Rattle.std.proofs.lemmas.Bool.{cond-true, cond-false}
 use Rattle.edge_io.specs.Causes.{RisesExactlyIf}
 use Rattle.edge_io.specs.Disk.{Files}
@@ -15,13 +15,13 @@ use Rattle.stestr_conf.specs.declared.settled_values.SettleFault.TheVariants as 
 use Rattle.stestr_conf.specs.declared.table.TableFault.{TableFault}
 use Rattle.stestr_conf.specs.declared.table.TableFault.TheVariants as table
 use Rattle.suite_plan.specs.Texts.{most_text}
-use Rattle.suite_plan.specs.ConfFile.{conf_file_name, file_by, file_says, text_says, lines_say, stestr_says, table_says, values_say, settings_say, or_next, required, project_settings, settings_for, conf_failed, unread_conf, refused_lines, HasConfCause, ReadsSaid}
-use Rattle.suite_plan.specs.declared.conf_file.BadConf.TheVariants.{TooLong}
+use Rattle.suite_plan.specs.ConfFile.{conf_file_name, file_by, file_says, text_says, lines_say, stestr_says, table_says, values_say, settings_say, or_next, required, project_settings, settings_for, unless_elsewhere, placed_on, said_there, conf_failed, unread_conf, refused_lines, HasConfCause, ReadsSaid}
+use Rattle.suite_plan.specs.declared.conf_file.BadConf.TheVariants.{TooLong, NoInstances}
 use Rattle.suite_plan.specs.declared.conf_file.ConfFile.{ConfFile}
 use Rattle.suite_plan.specs.declared.conf_file.ConfFile.TheVariants.{TestrConf, StestrConf, PyProject}
 use Rattle.suite_plan.specs.declared.conf_file.ConfRefusal.{ConfRefusal}
 use Rattle.suite_plan.specs.declared.conf_file.ConfRefusal.TheVariants as conf
-use Rattle.testr_conf.specs.Settings.{Settings, conf_of}
+use Rattle.testr_conf.specs.Settings.{Settings, asks_instances, conf_of}
 use Rattle.testr_conf.specs.Stestr.{stestr_of}
 use Rattle.testr_conf.specs.declared.fault.ConfFault.{ConfFault}
 use Rattle.testr_conf.specs.declared.fault.ConfFault.TheVariants as fault
@@ -98,7 +98,6 @@ lines_fine : (file : ConfFile) (why : ConfFault) → conf_failed {T = Option Set
 lines_fine file (fault.BadLine number) = refl
 lines_fine file (fault.NoSection number) = refl
 lines_fine file (fault.Repeated number) = refl
-lines_fine file (fault.NotKnown key) = refl
 lines_fine file fault.NoCommand = refl
 lines_fine file fault.NoMemory = refl
 
@@ -230,3 +229,35 @@ module _ (project : Project) (said : Files → Result (Option Settings) ConfRefu
       → IfOk result (λ given. given ≡ project_settings project.folder project.words settings) → IfErr result (λ refusal. refusal ≡ conf.NoMemory) → ReadsSaid project_said before after result
   project_end settings reads (Ok given) is short = subst (λ (s : Settings). ReadsSaid project_said before after (Ok s)) (sym is) (project_says settings reads)
   project_end settings reads (Err refusal) is short = subst (λ (r : ConfRefusal). ReadsSaid project_said before after (Err r)) (sym short) (project_short settings reads)
+
+-- Where its jobs run.
+
+here_fine : (asks : Bool) (settings : Settings) → conf_failed (cond asks (Err (conf.Bad TestrConf NoInstances)) (Ok settings)) ≡ false
+here_fine true settings = refl
+here_fine false settings = refl
+
+placed_fine : (instances : Option (List (List ℕ))) (settings : Settings) → conf_failed (placed_on instances settings) ≡ false
+placed_fine None settings = here_fine (asks_instances settings) settings
+placed_fine (Some names) settings = refl
+
+module _ (instances : Option (List (List ℕ))) (own : Files → Result Settings ConfRefusal) (before after : Seen Files) where
+  -- what is said there or here
+  abbrev pub there : Files → Result Settings ConfRefusal
+  there files = said_there instances (own files)
+
+  pub there_refuses : (refusal : ConfRefusal) → ReadsSaid own before after (Err refusal) → ReadsSaid there before after (Err refusal)
+  there_refuses refusal reads = record {
+    conf = tt;
+    refused = where_told before.told (λ files. HasConfCause (own files) refusal) (λ files. HasConfCause (there files) refusal)
+        (λ files. cause_under (said_there instances) (λ r. refl) (own files) refusal) reads.refused;
+    same = reads.same;
+    count = reads.count;
+  }
+
+  pub there_end : (settings : Settings) → ReadsSaid own before after (Ok settings) → (result : Result Settings ConfRefusal)
+      → (placed_on instances settings ≡ result) ⊎ (result ≡ Err conf.NoMemory) → ReadsSaid there before after result
+  there_end settings reads result ends = ⊎_elim
+      (λ placed. said_end there before after reads.same result (reads.count.stands refl) (ap conf_failed (sym placed) ∙ placed_fine instances settings)
+      (where_told before.told (λ files. own files ≡ Ok settings) (λ files. there files ≡ result) (λ files is. ap (said_there instances) is ∙ placed) reads.conf))
+      (λ memory. subst (ReadsSaid there before after) (sym memory) (memory_end there before after reads.same (reads.count.stands refl)))
+      ends

@@ -10,6 +10,7 @@ pub mod ToldLemmas
 pub mod GatherLemmas
 pub mod CountLemmas
 pub mod CallLemmas
+pub mod InstanceLemmas
 pub mod ChoosingLemmas
 pub mod JobLemmas
 pub mod ShareLemmas

@@ -12,12 +12,12 @@ use Rattle.stestr_conf.specs.declared.settled_values.SettleFault.TheVariants as 
 use Rattle.stestr_conf.specs.declared.table.TableFault.{TableFault}
 use Rattle.stestr_conf.specs.declared.table.TableFault.TheVariants as table
 use Rattle.suite_plan.specs.Texts.{most_text}
-use Rattle.suite_plan.specs.declared.conf_file.BadConf.TheVariants.{TooLong, BadLine, NoSection, Repeated, NotKnown, NoCommand, NoTestPath, NotToml, NotTable, BadValue}
+use Rattle.suite_plan.specs.declared.conf_file.BadConf.TheVariants.{TooLong, BadLine, NoSection, Repeated, NoInstances, NoCommand, NoTestPath, NotToml, NotTable, BadValue}
 use Rattle.suite_plan.specs.declared.conf_file.ConfFile.{ConfFile}
 use Rattle.suite_plan.specs.declared.conf_file.ConfFile.TheVariants.{TestrConf, StestrConf, PyProject}
 use Rattle.suite_plan.specs.declared.conf_file.ConfRefusal.{ConfRefusal}
 use Rattle.suite_plan.specs.declared.conf_file.ConfRefusal.TheVariants.{Site, Absent, Bad, NoMemory}
-use Rattle.testr_conf.specs.Settings.{Settings, conf_of, settings_in, grouped_by, with_arguments}
+use Rattle.testr_conf.specs.Settings.{Settings, conf_of, settings_in, grouped_by, with_arguments, on_instances, asks_instances}
 use Rattle.testr_conf.specs.Stestr.{stestr_of}
 use Rattle.testr_conf.specs.declared.fault.ConfFault.{ConfFault}
 use Rattle.testr_conf.specs.declared.fault.ConfFault.TheVariants as fault
@@ -57,7 +57,6 @@ abbrev pub refused_lines : ConfFile → ConfFault → ConfRefusal
 refused_lines file (fault.BadLine number) = Bad file (BadLine number)
 refused_lines file (fault.NoSection number) = Bad file (NoSection number)
 refused_lines file (fault.Repeated number) = Bad file (Repeated number)
-refused_lines file (fault.NotKnown key) = Bad file (NotKnown key)
 refused_lines file fault.NoCommand = Bad file NoCommand
 refused_lines file fault.NoMemory = NoMemory
 
@@ -146,9 +145,33 @@ abbrev pub settings_for : Project → Result Settings ConfRefusal → Result Set
 settings_for project (Ok settings) = Ok (project_settings project.folder project.words settings)
 settings_for project (Err refusal) = Err refusal
 
+-- what the files of this project say of its configuration, wherever its jobs run
+abbrev pub own_conf_in : Project → Files → Result Settings ConfRefusal
+own_conf_in project files = settings_for project (required (files_say project.face project.words files))
+
+-- ---- where its jobs run
+
+-- the settings, unless they ask for instances: where none were provisioned, no job runs
+abbrev pub unless_elsewhere : Settings → Result Settings ConfRefusal
+unless_elsewhere settings = if asks_instances settings then Err (Bad TestrConf NoInstances) else Ok settings
+
+-- the settings on the instances that were provisioned, or here
+abbrev pub placed_on : Option (List (List ℕ)) → Settings → Result Settings ConfRefusal
+placed_on None settings = unless_elsewhere settings
+placed_on (Some instances) settings = Ok (on_instances instances settings)
+
+-- what is said of the configuration, there or here
+abbrev pub said_there : Option (List (List ℕ)) → Result Settings ConfRefusal → Result Settings ConfRefusal
+said_there instances (Ok settings) = placed_on instances settings
+said_there instances (Err refusal) = Err refusal
+
 -- what the files of this project say of its configuration
 abbrev pub conf_in : Project → Files → Result Settings ConfRefusal
-conf_in project files = settings_for project (required (files_say project.face project.words files))
+conf_in project files = said_there project.words.instances (own_conf_in project files)
+
+-- the files give these settings, wherever the jobs run
+abbrev pub GivesOwnSettings : Project → Settings → Files → Type 0
+GivesOwnSettings project settings files = own_conf_in project files ≡ Ok settings
 
 -- the files give these settings
 abbrev pub GivesSettings : Project → Settings → Files → Type 0
@@ -175,6 +198,10 @@ pub record ReadsSaid {T : Type 0} (said : Files → Result T ConfRefusal) (befor
   pub refused : IfErr result (λ refusal. IfSome before.told (λ files. HasConfCause (said files) refusal))
   pub same : after.told ≡ before.told
   pub count : RisesExactlyIf before.faults after.faults (conf_failed result)
+
+-- the step that reads the configuration of this project, wherever its jobs run
+abbrev pub ReadsOwnConf : Project → Seen Files → Seen Files → Result Settings ConfRefusal → Type 0
+ReadsOwnConf project before after result = ReadsSaid (own_conf_in project) before after result
 
 -- the step that reads the configuration of this project
 abbrev pub ReadsConf : Project → Seen Files → Seen Files → Result Settings ConfRefusal → Type 0

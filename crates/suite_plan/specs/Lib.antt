@@ -14,6 +14,7 @@ pub mod Listed
 pub mod Outputs
 pub mod Gathering
 pub mod Counting
+pub mod Provisioning
 pub mod Patterns
 pub mod Choosing
 pub mod Sharing

@@ -1,18 +1,19 @@
 //! The configuration of a project, read from its file.
 
-ghost use Rattle.std.specs.Prelude.{◌≡◌, ◌≤◌, ◌⊎◌, ◌++◌, ◌∷◌, [], length, Err, IfOk, IfErr, OnOk};
-ghost use Rattle.suite_plan.specs.ConfFile.{ReadsConf, ReadsSaid, conf_file_name, file_says, files_say, later_say, project_settings, first_file, second_file, lines_say, values_say, stestr_says, table_says, text_says, unread_conf, refused_lines, refused_values, refused_table};
+ghost use Rattle.std.specs.Prelude.{◌≡◌, ◌≤◌, ◌⊎◌, ◌++◌, ◌∷◌, [], length, Ok, Err, IfOk, IfErr, OnOk};
+ghost use Rattle.suite_plan.specs.ConfFile.{ReadsConf, ReadsOwnConf, ReadsSaid, placed_on, conf_file_name, file_says, files_say, later_say, project_settings, first_file, second_file, lines_say, unless_elsewhere, values_say, stestr_says, table_says, text_says, unread_conf, refused_lines, refused_values, refused_table};
 ghost use Rattle.suite_plan.specs.declared.conf_file.ConfRefusal.TheVariants.{NoMemory};
 ghost use Rattle.stestr_conf.specs.Table.{table_of};
-ghost use Rattle.testr_conf.specs.Settings.{conf_of};
+ghost use Rattle.testr_conf.specs.Settings.{conf_of, on_instances};
 ghost use Rattle.testr_conf.specs.Stestr.{stestr_of};
 
 use crate::texts::MOST_TEXT;
-use edge_io::{ReadFault, Site, read_file};
+use crate::whole::read_whole;
+use edge_io::{ReadFault, Site};
 use std::alloc::Global;
 use stestr_conf::{SettleFault, TableFault, TableKey, read_table, settings_of_values};
 use sub_number::{IdList, NoMemory as OutOfMemory, Text};
-use testr_conf::{Conf, ConfFault, MachineKey, StestrValues};
+use testr_conf::{Conf, ConfFault, StestrValues};
 use testr_words::{Face, ProjectWords};
 
 /// A file that may have the configuration of a project.
@@ -50,8 +51,8 @@ pub enum BadConf {
     NoSection(u32),
     /// This line sets a key that an earlier one has set.
     Repeated(u32),
-    /// This key is set, which would have the tests run on other machines.
-    NotKnown(MachineKey),
+    /// It asks for instances, and none were provisioned.
+    NoInstances,
     /// `test_command` is not set, or is empty.
     NoCommand,
     /// No path of the tests is set, or it is empty.
@@ -107,7 +108,6 @@ fn bad_lines(file: ConfFile, fault: ConfFault) -> ConfRefusal
         ConfFault::BadLine(number) => ConfRefusal::Bad(file, BadConf::BadLine(number)),
         ConfFault::NoSection(number) => ConfRefusal::Bad(file, BadConf::NoSection(number)),
         ConfFault::Repeated(number) => ConfRefusal::Bad(file, BadConf::Repeated(number)),
-        ConfFault::NotKnown(key) => ConfRefusal::Bad(file, BadConf::NotKnown(key)),
         ConfFault::NoCommand => ConfRefusal::Bad(file, BadConf::NoCommand),
         ConfFault::NoMemory => ConfRefusal::NoMemory,
     }
@@ -136,13 +136,8 @@ fn bad_table(fault: TableFault) -> ConfRefusal
     }
 }
 
-/// The configuration of a project that stands in the folder of the site, by the first of its files that is there, each of
-/// at most 16,777,216 bytes: for `stestr` this is `.stestr.conf` before `.testr.conf`. The words stand before what the
-/// file says.
-///
-/// `Absent` comes exactly where no file is there that has a configuration, and `Bad` exactly where the first that is there
-/// is refused so. `Site` comes only where a read failed, which counts, and `NoMemory` only for want of memory; each may come
-/// before any of the others is seen. No file changes.
+/// The configuration of a project, as `read_own_conf` reads it: of one whose jobs run on the instances that were provisioned for
+/// it, or of one that asks for none. Of one that asks for instances and has none, `Bad` comes, with `NoInstances`.
 pub fn read_conf<F: Site>(
     alloc: Global,
     face: Face,
@@ -150,6 +145,58 @@ pub fn read_conf<F: Site>(
     site: &mut F,
 ) -> Result<Conf, ConfRefusal>
     ensures step { ReadsConf (record { folder = F.folder site.old; face = face; words = words.now }) (F.seen site.old) (F.seen site.new) result }
+{
+    match read_own_conf(alloc, face, words, site) {
+        Ok(conf) => place(alloc, words, conf),
+        Err(refusal) => Err(refusal),
+    }
+}
+
+// The settings on the instances that were provisioned, or here.
+fn place(alloc: Global, words: &ProjectWords, conf: Conf) -> Result<Conf, ConfRefusal>
+    ensures { (placed_on words.now.instances conf ≡ result) ⊎ (result ≡ Err NoMemory) }
+{
+    match &words.instances {
+        Some(instances) => place_on(alloc, instances, conf),
+        None => unless_elsewhere(conf),
+    }
+}
+
+// The settings on these instances.
+fn place_on(alloc: Global, instances: &IdList, conf: Conf) -> Result<Conf, ConfRefusal>
+    ensures { (result ≡ Ok (on_instances instances.now conf)) ⊎ (result ≡ Err NoMemory) }
+{
+    match copied_list(alloc, instances.list()) {
+        Ok(copies) => Ok(conf.on_instances(copies)),
+        Err(OutOfMemory) => Err(ConfRefusal::NoMemory),
+    }
+}
+
+// The settings, unless they ask for instances: where none were provisioned, no job runs.
+fn unless_elsewhere(conf: Conf) -> Result<Conf, ConfRefusal>
+    ensures { result ≡ unless_elsewhere conf }
+{
+    if conf.asks_instances() {
+        return Err(ConfRefusal::Bad(ConfFile::TestrConf, BadConf::NoInstances));
+    }
+    Ok(conf)
+}
+
+/// The configuration of a project that stands in the folder of the site, by the first of its files that is there, each of
+/// at most 16,777,216 bytes: for `stestr` this is `.stestr.conf` before `.testr.conf`. The words stand before what the
+/// file says. Whether the project asks for instances is not judged.
+///
+/// `Absent` comes exactly where no file is there that has a configuration, and `Bad` exactly where the first that is there
+/// is refused so. `Site` comes only where a read failed, which counts, and `NoMemory` only for want of memory; each may come
+/// before any of the others is seen. No file changes.
+pub fn read_own_conf<F: Site>(
+    alloc: Global,
+    face: Face,
+    words: &ProjectWords,
+    site: &mut F,
+) -> Result<Conf, ConfRefusal>
+    ensures step { ReadsOwnConf (record { folder = F.folder site.old; face = face; words = words.now }) (F.seen site.old) (F.seen site.new) result }
+    ensures path { F.folder site.new ≡ F.folder site.old }
 {
     let Ok(folder) = String::from_str(alloc, site.folder()) else {
         return Err(ConfRefusal::NoMemory);
@@ -186,7 +233,8 @@ fn copied(text: &Option<Text>) -> Result<Option<Text>, OutOfMemory>
     }
 }
 
-fn copied_list(alloc: Global, texts: &[Text]) -> Result<IdList, OutOfMemory>
+// Copies of the texts, in their order.
+pub(crate) fn copied_list(alloc: Global, texts: &[Text]) -> Result<IdList, OutOfMemory>
     ensures { IfOk result (λ copies. copies ≡ texts.now) }
 {
     let mut copies = IdList::new(alloc);
@@ -213,6 +261,7 @@ fn read_files<F: Site>(
     site: &mut F,
 ) -> Result<Option<Conf>, ConfRefusal>
     ensures step { ReadsSaid (files_say face words.now) (F.seen site.old) (F.seen site.new) result }
+    ensures path { F.folder site.new ≡ F.folder site.old }
 {
     match read_one(alloc, words, first(face), site) {
         Ok(None) => read_later(alloc, face, words, site),
@@ -229,6 +278,7 @@ fn read_later<F: Site>(
     site: &mut F,
 ) -> Result<Option<Conf>, ConfRefusal>
     ensures step { ReadsSaid (later_say face words.now) (F.seen site.old) (F.seen site.new) result }
+    ensures path { F.folder site.new ≡ F.folder site.old }
 {
     match read_one(alloc, words, second(face), site) {
         Ok(None) => read_one(alloc, words, ConfFile::PyProject, site),
@@ -265,8 +315,9 @@ fn read_one<F: Site>(
     site: &mut F,
 ) -> Result<Option<Conf>, ConfRefusal>
     ensures step { ReadsSaid (file_says words.now file) (F.seen site.old) (F.seen site.new) result }
+    ensures path { F.folder site.new ≡ F.folder site.old }
 {
-    match read_file(alloc, site, file.name(), MOST_TEXT) {
+    match read_whole(alloc, site, file.name(), MOST_TEXT) {
         Ok(Some(text)) => read_text(alloc, words, file, &text),
         Ok(None) => Ok(None),
         Err(fault) => Err(unread(file, fault)),

@@ -8,11 +8,12 @@
 //! For want of memory a public call answers `NoMemory`, which comes for nothing else; what it was lent is then as
 //! before, where it does not say otherwise. What it did outside by then stands.
 //!
-//! - `texts`: files that are read whole, and must not be too long
+//! - `texts`, `whole`: files that are read whole, and must not be too long
 //! - `conf_file`, `load_list`, `pattern_list`, `processors`: the configuration, a list of ids, one of patterns, and the table
 //!   of processors
 //! - `output`, `listing_reader`, `notes`: what a child gives, read to its end
 //! - `test_listing`, `count_command`, `output_number`: the tests that the project's listing tells of, and the number of workers that it calls out
+//! - `provisioning`, `disposing`: the instances that the project provisions, and the end of them
 //! - `listed`, `first_ids`, `file_texts`, `tail`: the ids that a listing tells, each once, and what is told of a program that failed
 //! - `patterns`, `picks`, `choice`: which of the tests run
 //! - `worker_shares`, `lane_jobs`: which shard has which of them, which worker runs which of them, and the job of each worker
@@ -22,6 +23,7 @@
 mod choice;
 mod conf_file;
 mod count_command;
+mod disposing;
 mod file_texts;
 mod first_ids;
 mod lane_jobs;
@@ -36,14 +38,17 @@ mod pattern_list;
 mod patterns;
 mod picks;
 mod processors;
+mod provisioning;
 mod tail;
 mod test_listing;
 mod texts;
+mod whole;
 mod worker_shares;
 
 pub use choice::{choose_ids, chosen_ids, ids_in_both};
-pub use conf_file::{BadConf, ConfFile, ConfRefusal, read_conf};
+pub use conf_file::{BadConf, ConfFile, ConfRefusal, read_conf, read_own_conf};
 pub use count_command::{CallRefusal, run_count_command};
+pub use disposing::{Disposal, DisposeFault};
 pub use first_ids::first_of_each;
 pub use lane_jobs::jobs_of_lanes;
 pub use laws::{outputs_tell_one_text, shards_are_shares};
@@ -52,5 +57,6 @@ pub use pattern_list::{BadLine, PatternListRefusal, read_pattern_list};
 pub use patterns::{Compiled, PatternRefusal, compile_picks};
 pub use picks::{FurtherPicks, Picks};
 pub use processors::{TableRefusal, count_processors};
+pub use provisioning::{ProvisionRefusal, provision, workers_on};
 pub use test_listing::{ListingRefusal, list_tests};
 pub use worker_shares::{MOST_WORKERS, ids_of_shard, share_out_ids};

@@ -12,6 +12,8 @@ mod tests_suite_plan_choice;
 #[cfg(test)]
 mod tests_suite_plan_files;
 #[cfg(test)]
+mod tests_suite_plan_instances;
+#[cfg(test)]
 mod tests_suite_plan_said;
 #[cfg(test)]
 mod tests_suite_run;

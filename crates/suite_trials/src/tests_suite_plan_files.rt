@@ -8,7 +8,7 @@ use suite_plan::{
     BadConf, ConfFile, ConfRefusal, ListRefusal, PatternListRefusal, TableRefusal,
     count_processors, read_conf, read_load_list, read_pattern_list,
 };
-use testr_conf::{Conf, MachineKey};
+use testr_conf::Conf;
 use testr_words::{Face, ProjectWords};
 
 const CONF: &[u8] = b".testr.conf";
@@ -102,8 +102,8 @@ fn each_refusal_of_a_configuration(rt: HostRuntime) -> Result<(), Fail> {
             BadConf::Repeated(3),
         ),
         (
-            b"[DEFAULT]\ninstance_dispose=x\n",
-            BadConf::NotKnown(MachineKey::Dispose),
+            b"[DEFAULT]\ntest_command=a\ninstance_provision=x\n",
+            BadConf::NoInstances,
         ),
     ];
     for row in &rows {

@@ -13,7 +13,7 @@ use Rattle.old_copies.specs.Copying.{folder_in, IsCopiedFirst, IsOldFolder, plac
 use Rattle.old_copies.specs.declared.faults.OldCopyFault.{OldCopyFault}
 use Rattle.old_copies.specs.declared.faults.OldCopyFault.TheVariants.{Here, OldHere, StrangeHere, NoStore, NotOld, UnknownFormat, BadCount, OtherFiles, Site, Shelf, NoMemory}
 use Rattle.command_steps.specs.Outside.{Outside}
-use Rattle.testr_commands.specs.WholeCall.{TestrPromises}
+use Rattle.testr_commands.specs.Elsewhere.{TestrPromises}
 use Rattle.testr_words.specs.declared.command.Face.{Face}
 
 -- ---- words

@@ -42,6 +42,9 @@ pub mod SpokenLemmas
 pub mod ForceLemmas
 pub mod EndLemmas
 pub mod WholeLemmas
+pub mod FrontLemmas
+pub mod ElsewhereLemmas
+pub mod OrderLemmas
 pub mod Performing
 pub mod SelfTestRows
 pub mod RunLemmas

@@ -25,6 +25,7 @@ use Rattle.suite_plan.specs.declared.load_list.ListRefusal.TheVariants as load_l
 use Rattle.suite_plan.specs.declared.patterns.PatternRefusal.TheVariants as pattern
 use Rattle.suite_plan.specs.declared.processors.TableRefusal.{TableRefusal}
 use Rattle.suite_plan.specs.declared.processors.TableRefusal.TheVariants as table
+use Rattle.suite_plan.specs.declared.provisioning.ProvisionRefusal.TheVariants as provision
 use Rattle.suite_run.specs.Recording.{lanes_failed}
 use Rattle.suite_run.specs.Starting.{start_failed}
 use Rattle.suite_run.specs.declared.lane_recorder.LanesRefusal.{LanesRefusal}
@@ -40,7 +41,7 @@ use Rattle.command_steps.specs.declared.answer.Refusal.{Refusal}
 use Rattle.command_steps.specs.TimesFile.{times_failed}
 use Rattle.command_steps.specs.declared.times_file.TimesRefusal.{TimesRefusal}
 use Rattle.command_steps.specs.declared.times_file.TimesRefusal.TheVariants as times_file
-use Rattle.command_steps.specs.declared.answer.Refusal.TheVariants.{Usage, Init, Open, Record, Keep, Refresh, Tell, Print, Conf, Pattern, LoadList, TimesFile, Call, Table, Listing, Job, Start, Lanes, Ran, Search, Upgrade}
+use Rattle.command_steps.specs.declared.answer.Refusal.TheVariants.{Usage, Init, Open, Record, Keep, Refresh, Tell, Print, Conf, Pattern, LoadList, TimesFile, Call, Table, Listing, Provision, Job, Start, Lanes, Ran, Search, Upgrade}
 use Rattle.command_steps.specs.declared.input_recorder.RecordFault.TheVariants as record_fault
 use Rattle.old_upgrade.specs.declared.faults.UpgradeFault.TheVariants as upgrade_fault
 use Rattle.command_steps.specs.declared.question_answers.TellFault.{TellFault}
@@ -70,6 +71,7 @@ codes (TimesFile times_file.Site) named = record { least = omega arith; most = o
 codes (Call call.Spawn) named = record { least = omega arith; most = omega arith }
 codes (Table table.Site) named = record { least = omega arith; most = omega arith }
 codes (Listing listing.Spawn) named = record { least = omega arith; most = omega arith }
+codes (Provision provision.Spawn) named = record { least = omega arith; most = omega arith }
 codes (Job job.NoMemory) named = record { least = omega arith; most = omega arith }
 codes (Start start.Spawn) named = record { least = omega arith; most = omega arith }
 codes (Lanes lanes.NoMemory) named = record { least = omega arith; most = omega arith }
@@ -102,6 +104,8 @@ faults (Call call.Child) four = of_child tt
 faults (Table table.Site) four = of_part in_site refl
 faults (Listing listing.Spawn) four = of_part in_spawner refl
 faults (Listing listing.Child) four = of_child tt
+faults (Provision provision.Spawn) four = of_part in_spawner refl
+faults (Provision provision.Child) four = of_child tt
 faults (Job job.NoMemory) four = absurd (omega (arith, four))
 faults (Start start.Spawn) four = of_part in_spawner refl
 faults (Lanes (lanes.Shelf which)) four = of_part in_folder refl

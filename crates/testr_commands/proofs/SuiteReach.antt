@@ -73,7 +73,7 @@ calls_few settings (Err call.NoMemory) a b calls = goes_weaker a.told b.told (Ha
     by s t (inl stays) = stays_few 1 s t stays
     by s t (inr starts) = starts_few starts.job starts.output s t starts.started
 
-lists_few : (settings : Settings) (result : Result Ids ListingRefusal) (a b : Seen Spawning) → ListsTests settings a b result → Goes a.told b.told (AsksFew 1)
+pub lists_few : (settings : Settings) (result : Result Ids ListingRefusal) (a b : Seen Spawning) → ListsTests settings a b result → Goes a.told b.told (AsksFew 1)
 lists_few settings (Ok ids) a b lists = goes_weaker a.told b.told (ListsSo settings ids) (AsksFew 1) lists.listed (λ s t starts. starts_few starts.job starts.output s t starts.started)
 lists_few settings (Err listing.NoListOption) a b lists = goes_weaker a.told b.told (HasListingCause settings listing.NoListOption) (AsksFew 1) lists.refused (λ s t cause. stays_few 1 s t cause.1)
 lists_few settings (Err listing.Spawn) a b lists = goes_weaker a.told b.told (HasListingCause settings listing.Spawn) (AsksFew 1) lists.refused (λ s t cause. stays_few 1 s t cause.1)

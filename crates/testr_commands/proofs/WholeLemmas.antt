@@ -32,7 +32,8 @@ use Rattle.edge_io.specs.Disk.{Files, Folder}
 use Rattle.command_steps.specs.declared.answer.Refusal.TheVariants.{LoadList}
 use Rattle.testr_commands.specs.Endings.{Readied, CanExpect, Expecting}
 use Rattle.testr_commands.proofs.EndLemmas.{adding_to, adding_none}
-use Rattle.testr_commands.specs.WholeCall.{without_out, Hides, PromisesEnding, PromisesHiding, PromisesSaying, PromisesExpecting, PromisesUnwarned, most_workers_text, TellsMost, Warns, ReadsNot, PromisesCommand, PromisesWords, TestrPromises}
+use Rattle.testr_commands.specs.WholeCall.{without_out, Hides, PromisesEnding, PromisesHiding, PromisesSaying, PromisesExpecting, PromisesUnwarned, most_workers_text, TellsMost, Warns, ReadsNot, PromisesCommand, PromisesWords}
+use Rattle.testr_commands.specs.Elsewhere.{PromisesAnywhere, HereThen, ElsewhereThen, TestrPromises}
 use Rattle.testr_commands.proofs.ForceLemmas.{by_reading, by_memory}
 use Rattle.testr_commands.proofs.PromiseLemmas.{promises}
 use Rattle.testr_commands.proofs.SpokenLemmas.{saying_to, saying_none, no_packets}
@@ -210,6 +211,22 @@ PromisesRead folder read = PromisesWords (warns_then folder read) (streams_then 
 pub read_by : (folder : List ℕ) (command : Command) (read : Option Command) (before after : Outside) (answer : ℕ) → Some command ≡ read → PromisesCommand (warns folder command) (streams folder command) (live_of folder command) (hides folder command) (forces folder command) (expects folder command) (task_of folder command) before after answer → PromisesRead folder read before after answer
 read_by folder command read before after answer is given =
     subst (λ (o : Option Command). PromisesRead folder o before after answer) is (by_words (warns folder command) (streams folder command) (live_of folder command) (hides folder command) (forces folder command) (expects folder command) (task_of folder command) before after answer given)
+
+-- what the words promise, here or elsewhere
+abbrev pub PromisesThen : List ℕ → Option Command → Outside → Outside → ℕ → Type 0
+PromisesThen folder read before after answer = (PromisesRead folder read before after answer × HereThen folder read before.site answer) ⊎ ElsewhereThen folder read before after answer
+
+pub anywhere_by : (folder : List ℕ) (command : Command) (read : Option Command) (before after : Outside) (answer : ℕ) → Some command ≡ read → PromisesAnywhere folder command before after answer → PromisesThen folder read before after answer
+anywhere_by folder command read before after answer is (inl (here, placed)) = inl (read_by folder command read before after answer is here, subst (λ (o : Option Command). HereThen folder o before.site answer) is placed)
+anywhere_by folder command read before after answer is (inr there) = inr (subst (λ (o : Option Command). ElsewhereThen folder o before after answer) is there)
+
+-- they are no command, or memory was wanting for them
+pub none_here : (folder : List ℕ) (read : Option Command) (site : Seen Files) (answer : ℕ) → None ≡ read → HereThen folder read site answer
+none_here folder read site answer is = subst (λ (o : Option Command). HereThen folder o site answer) is tt
+
+pub five_here : (folder : List ℕ) (read : Option Command) (site : Seen Files) (answer : ℕ) → answer ≡ 5 → HereThen folder read site answer
+five_here folder None site answer is = tt
+five_here folder (Some command) site answer is = inr (omega (arith, is))
 
 -- they are no command
 pub read_none : (folder : List ℕ) (read : Option Command) (before after : Outside) (answer : ℕ) → None ≡ read → Answers true None before after answer → PromisesRead folder read before after answer

@@ -8,9 +8,10 @@ use Rattle.testr_commands.specs.Upgrade.{upgrade_may_have_kept}
 use Rattle.suite_causes.specs.declared.cause_search.SearchFault.TheVariants as search_fault
 use Rattle.suite_plan.specs.declared.count_command.CallRefusal.TheVariants as call
 use Rattle.suite_plan.specs.declared.test_listing.ListingRefusal.TheVariants as listing
+use Rattle.suite_plan.specs.declared.provisioning.ProvisionRefusal.TheVariants as provision
 use Rattle.command_steps.specs.declared.answer.Verdict.{Verdict}
 use Rattle.command_steps.specs.declared.answer.Refusal.{Refusal}
-use Rattle.command_steps.specs.declared.answer.Refusal.TheVariants.{Keep, Refresh, Tell, Print, Call, Listing, Report, Suspects, Ran, Search}
+use Rattle.command_steps.specs.declared.answer.Refusal.TheVariants.{Keep, Refresh, Tell, Print, Call, Listing, Provision, Report, Suspects, Ran, Search}
 
 -- Whether a load has kept its run for good: it was done, or a step refused that comes behind the keeping.
 abbrev pub load_has_kept : Result Verdict Refusal → Bool
@@ -68,9 +69,11 @@ may_have_printed copied (Err (Ran fault)) = true
 may_have_printed copied (Err (Search fault)) = true
 may_have_printed copied outcome = false
 
--- the program that lists the tests, the one that tells how many workers there are, or that of a probe was not read to its end
+-- the program that lists the tests, the one that tells how many workers there are, the one that provisions instances, or that of a
+-- probe was not read to its end
 abbrev pub IsChildFault : Result Verdict Refusal → Type 0
 IsChildFault (Err (Call call.Child)) = ⊤
 IsChildFault (Err (Listing listing.Child)) = ⊤
+IsChildFault (Err (Provision provision.Child)) = ⊤
 IsChildFault (Err (Search search_fault.Child)) = ⊤
 IsChildFault outcome = ⊥

@@ -21,6 +21,8 @@ pub mod Forced
 pub mod Spoken
 pub mod Endings
 pub mod WholeCall
+pub mod Elsewhere
+pub mod JobOrder
 pub mod Prospects
 pub mod Exact
 pub mod ExactSuite

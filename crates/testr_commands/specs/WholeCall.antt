@@ -87,6 +87,6 @@ abbrev pub PromisesWords : (warn stream : Bool) → LiveKind → (hide force : B
 PromisesWords true stream kind hide force expect asked before after answer = Warns (PromisesExpecting stream kind hide force expect asked) before after answer ⊎ ReadsNot before after answer
 PromisesWords false stream kind hide force expect asked before after answer = PromisesUnwarned stream kind hide force expect asked before after answer
 
--- what `testr` promises, by this face, for all its words, for a project in the folder of this path
-abbrev pub TestrPromises : List ℕ → Face → List (List ℕ) → Outside → Outside → ℕ → Type 0
-TestrPromises folder face words = PromisesWords (warned_by folder face words) (streamed_by folder face words) (live_by folder face words) (hidden_by folder face words) (forced_by folder face words) (expected_by folder face words) (asked_by folder face words)
+-- what `testr` promises, by this face, for all its words, for a project in the folder of this path whose tests run here
+abbrev pub PromisesHere : List ℕ → Face → List (List ℕ) → Outside → Outside → ℕ → Type 0
+PromisesHere folder face words = PromisesWords (warned_by folder face words) (streamed_by folder face words) (live_by folder face words) (hidden_by folder face words) (forced_by folder face words) (expected_by folder face words) (asked_by folder face words)

@@ -23,7 +23,7 @@ ghost use Rattle.command_steps.specs.declared.question_answers.TellFault.{TellFa
 ghost use Rattle.command_steps.specs.declared.question_answers.TellFault.TheVariants.{Shelf as CachesShelf};
 ghost use Rattle.testr_commands.specs.Exact.{InitEnds, OpenEnds, RecordEnds, IsNoFile, IsFileTooLong, UpgradeEnds};
 ghost use Rattle.command_steps.specs.Files.{RecordsFiles};
-ghost use Rattle.command_steps.specs.Outside.{Fed, Filed};
+ghost use Rattle.command_steps.specs.Outside.{Fed, Filed, Outside as AnOutside};
 ghost use Rattle.command_steps.specs.Recording.{Records};
 ghost use Rattle.command_steps.specs.Refreshing.{Refreshes};
 ghost use Rattle.testr_words.specs.Questions.{OfLastRun};
@@ -33,7 +33,13 @@ ghost use Rattle.speaker.specs.Speaking.{Takes};
 ghost use Rattle.std.specs.Io.KnownBytes.{Appends};
 ghost use Rattle.command_steps.specs.declared.answer.Refusal.{Refusal as ARefusal};
 ghost use Rattle.command_steps.specs.declared.answer.Verdict.{Verdict as AVerdict};
+ghost use Rattle.testr_commands.specs.Elsewhere.{AsksNone, AsksSome, Elsewhere, ElsewhereThen, TestrPromises};
+ghost use Rattle.testr_commands.specs.JobOrder.{HasJobOrder};
 ghost use Rattle.testr_commands.specs.Program.{Tells};
+ghost use Rattle.testr_commands.specs.WholeCall.{PromisesHere};
+ghost use Rattle.testr_words.specs.Words.{command_of};
+ghost use Rattle.testr_words.specs.declared.command.Command.{Command as ACommand};
+ghost use Rattle.testr_words.specs.declared.command.Face.{Face as AFace};
 ghost use Rattle.testr_commands.specs.Spoken.{outcome_text};
 ghost use Rattle.command_steps.specs.Store.{Makes, Opens, TakesRun, HasRunFor};
 ghost use Rattle.command_steps.specs.Upgrading.{UpgradesFolder};
@@ -86,4 +92,21 @@ pub fn upgrade_refusals_are_exact()
 pub fn refusals_stand_behind_lines()
     ensures behind { (front : List ℕ) (start spoken after : Seen (List ℕ)) (failed : Bool) (outcome : Result AVerdict ARefusal) (answer : ℕ) → Takes front start spoken failed
         → (failed ≡ false → Tells outcome spoken after answer) → (failed ≡ true → after ≡ spoken) → (Rose start.faults after.faults → ⊥) → Appends start.told after.told (front ++ outcome_text outcome) }
+{}
+
+/// Where a project is told to ask for no instances, `testr` promises of its words what it promises of tests that run here, to the
+/// letter. Where it is told to ask for some, it promises what is done on them, but for a call that failed or want of memory.
+pub fn tests_run_elsewhere_where_asked()
+    ensures here { (folder : List ℕ) (face : AFace) (words : List (List ℕ)) (before after : AnOutside) (answer : ℕ) → TestrPromises folder face words before after answer
+        → AsksNone folder (command_of face words) before.site → PromisesHere folder face words before after answer }
+    ensures there { (folder : List ℕ) (face : AFace) (words : List (List ℕ)) (before after : AnOutside) (answer : ℕ) → TestrPromises folder face words before after answer
+        → AsksSome folder (command_of face words) before.site → ElsewhereThen folder (command_of face words) before after answer ⊎ (4 ≤ answer) }
+{}
+
+/// A call whose project asks for instances starts its jobs in this order: at most the one that counts the workers; the provision
+/// job; those of the command; and behind all of them the dispose job, once, exactly where the provision job ended with 0, unless
+/// there is none or its start failed. Where the provision job was not started, or ended otherwise, nothing is started behind it.
+pub fn instances_are_disposed_of_last()
+    ensures order { (folder : List ℕ) (command : ACommand) (before after : AnOutside) (answer : ℕ) → Elsewhere folder command before after answer
+        → HasJobOrder folder command before after answer }
 {}

@@ -8,6 +8,7 @@
 //!
 //! - `init`, `load`, `ask`, `run`, `list`, `selftest`: the commands, each a chain of steps
 //! - `upgrade`: the command that takes over a folder of the original tool
+//! - `elsewhere`: instances that a project asks for, in front of its command and behind it
 //! - `testr_call`: `testr`
 //! - `single_thread`: `quiet`, which needs no program and no thread
 //! - `answer`: a refusal is told, and the status given
@@ -21,6 +22,7 @@
 
 mod answer;
 mod ask;
+mod elsewhere;
 mod init;
 mod laws;
 mod list;
@@ -39,7 +41,10 @@ pub use command_steps::{
     CopyFault, KeepFault, PrintFault, RecordFault, Refusal, RunsFault, TellFault, UsageFault,
     Verdict,
 };
-pub use laws::{refusals_are_exact, refusals_stand_behind_lines, upgrade_refusals_are_exact};
+pub use laws::{
+    instances_are_disposed_of_last, refusals_are_exact, refusals_stand_behind_lines,
+    tests_run_elsewhere_where_asked, upgrade_refusals_are_exact,
+};
 pub use single_thread::quiet;
 pub use suite_laws::suite_refusals_are_exact;
 pub use testr_call::{testr, testr_as};

@@ -12,7 +12,8 @@ ghost use Rattle.command_steps.specs.Outside.{outside};
 ghost use Rattle.testr_commands.specs.Program.{Answers};
 ghost use Rattle.testr_commands.specs.Endings.{Adding, Begun};
 ghost use Rattle.testr_commands.specs.Spoken.{packets_for, Saying, Streams};
-ghost use Rattle.testr_commands.specs.WholeCall.{PromisesEnding, PromisesSaying, PromisesExpecting, PromisesCommand, TestrPromises, most_workers_text};
+ghost use Rattle.testr_commands.specs.Elsewhere.{TestrPromises};
+ghost use Rattle.testr_commands.specs.WholeCall.{PromisesEnding, PromisesSaying, PromisesExpecting, PromisesCommand, most_workers_text};
 ghost use Rattle.testr_commands.specs.Sparing.{SparesReads};
 ghost use Rattle.testr_commands.specs.SparingRun.{SparesRun};
 ghost use Rattle.testr_words.specs.Tasks.{task_of, task_with, forces, hides, live_of, streams, warns, expects};
@@ -22,6 +23,7 @@ ghost use Rattle.testr_words.specs.declared.command.Verb.TheVariants.{Run, ListT
 
 use crate::Refusal;
 use crate::answer::{answer, end_stream};
+use crate::elsewhere::follow_anywhere;
 use crate::list::list;
 use crate::missing_report::{MissingReport, answer_left, answer_left_behind};
 use crate::null_sink::NullSink;
@@ -117,7 +119,9 @@ pub fn testr_as<
     ensures spares_run { forced_by (F.folder site.old) face (texts words.now) ≡ false → streamed_by (F.folder site.old) face (texts words.now) ≡ false → SparesRun (asked_by (F.folder site.old) face (texts words.now)) (H.seen shelf.old).told (H.seen shelf.new).told result (H.clock shelf.old) (H.clock shelf.new) }
 {
     match read_command_as(alloc, face, words) {
-        Ok(Some(command)) => follow(rt, alloc, &command, shelf, spawner, site, input, out, err),
+        Ok(Some(command)) => follow_anywhere(
+            rt, alloc, command, shelf, spawner, site, input, out, err,
+        ),
         Ok(None) => answer(Err(Refusal::Usage(UsageFault::Words)), err),
         Err(fault) => answer(Err(Refusal::Memory(fault)), err),
     }
@@ -125,7 +129,15 @@ pub fn testr_as<
 
 // Tells first that there are not so many workers, where the command asks for more. Does what it says then, and answers its
 // status.
-fn follow<R: Threads + Wait + Sync, H: Shelf, S: Spawner, F: Site, I: Source, O: Sink, E: Sink>(
+pub(crate) fn follow<
+    R: Threads + Wait + Sync,
+    H: Shelf,
+    S: Spawner,
+    F: Site,
+    I: Source,
+    O: Sink,
+    E: Sink,
+>(
     rt: &R,
     alloc: Global,
     command: &Command,
@@ -518,7 +530,7 @@ fn list_suite<S: Spawner, F: Site, O: Sink, E: Sink>(
 }
 
 // Writes the line that tells that there are not so many workers.
-fn tell_most_workers<E: Sink>(err: &mut E) -> Result<(), Failed>
+pub(crate) fn tell_most_workers<E: Sink>(err: &mut E) -> Result<(), Failed>
     ensures whole { OnOk result (Appends (E.seen err.old).told (E.seen err.new).told most_workers_text) }
     ensures prefix { AppendsPrefix (E.seen err.old).told (E.seen err.new).told most_workers_text }
     ensures cause { HasCause (E.seen err.old).faults (E.seen err.new).faults result }

@@ -9,7 +9,7 @@ use Rattle.testr_conf.specs.Names.{key_name, dialect_names, named, has_name}
 use Rattle.testr_conf.specs.declared.name.Dialect.{Dialect}
 use Rattle.testr_conf.specs.declared.name.Dialect.TheVariants.{Testr, Stestr}
 use Rattle.testr_conf.specs.declared.name.Name.{Name}
-use Rattle.testr_conf.specs.declared.name.Name.TheVariants.{Command, IdOption, ListOption, IdList, Concurrency, GroupRegex, FilterTags, TestPath, TopDir, ParallelClass}
+use Rattle.testr_conf.specs.declared.name.Name.TheVariants.{Command, IdOption, ListOption, IdList, Concurrency, GroupRegex, FilterTags, Provision, Execute, Dispose, TestPath, TopDir, ParallelClass}
 
 -- what is found passes the test by which it is found, and each that all pass
 found_passes : {X : Type 0} (p q : X → Bool) (xs : List X) (x : X) → list_all q xs ≡ true → find p xs ≡ Some x → (p x ≡ true) × (q x ≡ true)
@@ -46,6 +46,9 @@ names_itself Testr IdList has = refl
 names_itself Testr Concurrency has = refl
 names_itself Testr GroupRegex has = refl
 names_itself Testr FilterTags has = refl
+names_itself Testr Provision has = refl
+names_itself Testr Execute has = refl
+names_itself Testr Dispose has = refl
 names_itself Testr TestPath has = absurd (false≢true has)
 names_itself Testr TopDir has = absurd (false≢true has)
 names_itself Testr ParallelClass has = absurd (false≢true has)
@@ -56,6 +59,9 @@ names_itself Stestr IdList has = absurd (false≢true has)
 names_itself Stestr Concurrency has = absurd (false≢true has)
 names_itself Stestr GroupRegex has = refl
 names_itself Stestr FilterTags has = absurd (false≢true has)
+names_itself Stestr Provision has = absurd (false≢true has)
+names_itself Stestr Execute has = absurd (false≢true has)
+names_itself Stestr Dispose has = absurd (false≢true has)
 names_itself Stestr TestPath has = refl
 names_itself Stestr TopDir has = refl
 names_itself Stestr ParallelClass has = refl

@@ -13,7 +13,7 @@ use Rattle.testr_conf.specs.Steps.{is_taken, kept}
 use Rattle.testr_conf.specs.declared.name.Dialect.{Dialect}
 use Rattle.testr_conf.specs.declared.name.Dialect.TheVariants.{Testr, Stestr}
 use Rattle.testr_conf.specs.declared.name.Name.{Name}
-use Rattle.testr_conf.specs.declared.name.Name.TheVariants.{Command, IdOption, ListOption, IdList, Concurrency, GroupRegex, FilterTags, TestPath, TopDir, ParallelClass}
+use Rattle.testr_conf.specs.declared.name.Name.TheVariants.{Command, IdOption, ListOption, IdList, Concurrency, GroupRegex, FilterTags, Provision, Execute, Dispose, TestPath, TopDir, ParallelClass}
 use Rattle.testr_conf.specs.declared.found_values.Found.{Found}
 use Rattle.testr_conf.specs.declared.line_reader.Place.TheVariants.{Default}
 use Rattle.testr_conf.proofs.KeyLemmas.{named_key, named_had, names_itself}
@@ -38,6 +38,9 @@ found_is dialect IdList settings = refl
 found_is dialect Concurrency settings = refl
 found_is dialect GroupRegex settings = refl
 found_is dialect FilterTags settings = refl
+found_is dialect Provision settings = refl
+found_is dialect Execute settings = refl
+found_is dialect Dispose settings = refl
 found_is dialect TestPath settings = refl
 found_is dialect TopDir settings = refl
 found_is dialect ParallelClass settings = refl
@@ -101,6 +104,9 @@ module _ (settings : List Setting) (s : Setting) where
     concurrency = value_skip dialect Concurrency none i;
     group_regex = value_skip dialect GroupRegex none i;
     filter_tags = value_skip dialect FilterTags none i;
+    provision = value_skip dialect Provision none i;
+    execute = value_skip dialect Execute none i;
+    dispose = value_skip dialect Dispose none i;
     test_path = value_skip dialect TestPath none i;
     top_dir = value_skip dialect TopDir none i;
     parallel_class = value_skip dialect ParallelClass none i;
@@ -119,6 +125,9 @@ module _ (settings : List Setting) (s : Setting) where
     concurrency = value_with dialect Concurrency key;
     group_regex = value_with dialect GroupRegex key;
     filter_tags = value_with dialect FilterTags key;
+    provision = value_with dialect Provision key;
+    execute = value_with dialect Execute key;
+    dispose = value_with dialect Dispose key;
     test_path = value_with dialect TestPath key;
     top_dir = value_with dialect TopDir key;
     parallel_class = value_with dialect ParallelClass key;
@@ -133,6 +142,9 @@ module _ (settings : List Setting) (s : Setting) where
   updated_is Testr Concurrency has = refl
   updated_is Testr GroupRegex has = refl
   updated_is Testr FilterTags has = refl
+  updated_is Testr Provision has = refl
+  updated_is Testr Execute has = refl
+  updated_is Testr Dispose has = refl
   updated_is Testr TestPath has = absurd (false≢true has)
   updated_is Testr TopDir has = absurd (false≢true has)
   updated_is Testr ParallelClass has = absurd (false≢true has)
@@ -143,6 +155,9 @@ module _ (settings : List Setting) (s : Setting) where
   updated_is Stestr Concurrency has = absurd (false≢true has)
   updated_is Stestr GroupRegex has = refl
   updated_is Stestr FilterTags has = absurd (false≢true has)
+  updated_is Stestr Provision has = absurd (false≢true has)
+  updated_is Stestr Execute has = absurd (false≢true has)
+  updated_is Stestr Dispose has = absurd (false≢true has)
   updated_is Stestr TestPath has = refl
   updated_is Stestr TopDir has = refl
   updated_is Stestr ParallelClass has = refl
@@ -161,6 +176,9 @@ module _ (settings : List Setting) (s : Setting) where
       concurrency = value_updated Concurrency i;
       group_regex = value_updated GroupRegex i;
       filter_tags = value_updated FilterTags i;
+      provision = value_updated Provision i;
+      execute = value_updated Execute i;
+      dispose = value_updated Dispose i;
       test_path = value_updated TestPath i;
       top_dir = value_updated TopDir i;
       parallel_class = value_updated ParallelClass i;

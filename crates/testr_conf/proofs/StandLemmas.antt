@@ -7,15 +7,13 @@ use Rattle.std.proofs.lemmas.List.Sums.{fold_push}
 use Rattle.bstr.specs.Text.{lines_of}
 use Rattle.bstr.proofs.lemmas.LengthLemmas.{length-lines_of}
 use Rattle.testr_conf.specs.Lines.{ConfLine, bad, skipped, more, section, setting, conf_lines, ended_line_of, placed_line, depth_behind, placed_lines, lines_below}
-use Rattle.testr_conf.specs.Settings.{Setting, section_after, section_of, is_default, settings_from, settings_of, value_above, has_key, machine_key, fault_if, fault_of, first_fault, or_later}
-use Rattle.std.specs.Option.{option_map}
+use Rattle.testr_conf.specs.Settings.{Setting, section_after, section_of, is_default, settings_from, settings_of, value_above, has_key, fault_if, fault_of, first_fault, or_later}
 use Rattle.testr_conf.specs.Names.{named}
 use Rattle.testr_conf.specs.Values.{is_unfit}
 use Rattle.testr_conf.specs.Keys.{found_of}
 use Rattle.testr_conf.specs.Steps.{place_in_section, reading_of, is_taken, setting_fault, fault_at, kept, known_after, TakesConfLine}
 use Rattle.testr_conf.specs.declared.fault.ConfFault.{ConfFault}
-use Rattle.testr_conf.specs.declared.fault.ConfFault.TheVariants.{BadLine, NoSection, Repeated, NotKnown, NoMemory}
-use Rattle.testr_conf.specs.declared.fault.MachineKey.{MachineKey}
+use Rattle.testr_conf.specs.declared.fault.ConfFault.TheVariants.{BadLine, NoSection, Repeated, NoMemory}
 use Rattle.testr_conf.specs.declared.name.Dialect.{Dialect}
 use Rattle.testr_conf.specs.declared.line_reader.Place.TheVariants.{Default, Elsewhere}
 use Rattle.testr_conf.specs.declared.line_reader.Reading.{Reading}
@@ -74,20 +72,19 @@ keys_push last (x ∷ xs) line below =
 
 -- What is known behind one more line.
 
-free_if : (taken unfit : Bool) (number : ℕ) (machine : Option MachineKey) → setting_fault Default number machine taken unfit ≡ None → taken ≡ false
-free_if true unfit number None fine = let other : Some (Repeated number) ≡ None = fine in cc
-free_if true unfit number (Some machine) fine = let other : Some (NotKnown machine) ≡ None = fine in cc
-free_if false unfit number machine fine = refl
+free_if : (taken unfit : Bool) (number : ℕ) → setting_fault Default number taken unfit ≡ None → taken ≡ false
+free_if true unfit number fine = let other : Some (Repeated number) ≡ None = fine in cc
+free_if false unfit number fine = refl
 
 module _ (dialect : Dialect) (done : List Setting) (s : Setting) (number : ℕ) where
-  kept_if : (b : Bool) → setting_fault (cond b Default Elsewhere) number (machine_key dialect s.key) (is_taken (named dialect s.key) (found_of dialect done)) (is_unfit (named dialect s.key) s.value) ≡ None
+  kept_if : (b : Bool) → setting_fault (cond b Default Elsewhere) number (is_taken (named dialect s.key) (found_of dialect done)) (is_unfit (named dialect s.key) s.value) ≡ None
       → kept (cond b Default Elsewhere) (named dialect s.key) s.value (found_of dialect done) ≡ found_of dialect (done ++ setting_if b s)
   kept_if true fine =
       kept_default done s dialect (named dialect s.key) refl
-      (free_if (is_taken (named dialect s.key) (found_of dialect done)) (is_unfit (named dialect s.key) s.value) number (machine_key dialect s.key) fine)
+      (free_if (is_taken (named dialect s.key) (found_of dialect done)) (is_unfit (named dialect s.key) s.value) number fine)
   kept_if false fine = ap (found_of dialect) (sym (append-nil done))
 
-  kept_is : (last : Option (List ℕ)) → setting_fault (place_in_section last) number (machine_key dialect s.key) (is_taken (named dialect s.key) (found_of dialect done)) (is_unfit (named dialect s.key) s.value) ≡ None
+  kept_is : (last : Option (List ℕ)) → setting_fault (place_in_section last) number (is_taken (named dialect s.key) (found_of dialect done)) (is_unfit (named dialect s.key) s.value) ≡ None
       → kept (place_in_section last) (named dialect s.key) s.value (found_of dialect done) ≡ found_of dialect (done ++ setting_if (is_default last) s)
   kept_is None fine = ap (found_of dialect) (sym (append-nil done))
   kept_is (Some name) fine = kept_if (is_default (Some name)) fine
@@ -114,16 +111,13 @@ module _ (dialect : Dialect) (before : List ConfLine) (done : List Setting) (num
 
 -- The refusals.
 
-module _ (number : ℕ) (machine : Option MachineKey) (taken used has unfit : Bool) (is : taken ≡ (used && has)) where
-  repeated_if : (b : Bool) → setting_fault (cond b Default Elsewhere) number machine taken unfit
-      ≡ or_later (cond b (option_map NotKnown machine) None) (or_later (fault_if (b && used && has) (Repeated number)) (fault_if (b && unfit) (BadLine number)))
-  repeated_if true = ap (λ t. or_later (option_map NotKnown machine) (or_later (fault_if t (Repeated number)) (fault_if unfit (BadLine number)))) is
+module _ (number : ℕ) (taken used has unfit : Bool) (is : taken ≡ (used && has)) where
+  repeated_if : (b : Bool) → setting_fault (cond b Default Elsewhere) number taken unfit ≡ or_later (fault_if (b && used && has) (Repeated number)) (fault_if (b && unfit) (BadLine number))
+  repeated_if true = ap (λ t. or_later (fault_if t (Repeated number)) (fault_if unfit (BadLine number))) is
   repeated_if false = refl
 
-  setting_same : (last : Option (List ℕ)) → setting_fault (place_in_section last) number machine taken unfit
-      ≡ cond (is_none last) (Some (NoSection number))
-      (or_later (cond (is_default last) (option_map NotKnown machine) None)
-      (or_later (fault_if (is_default last && used && has) (Repeated number)) (fault_if (is_default last && unfit) (BadLine number))))
+  setting_same : (last : Option (List ℕ)) → setting_fault (place_in_section last) number taken unfit
+      ≡ cond (is_none last) (Some (NoSection number)) (or_later (fault_if (is_default last && used && has) (Repeated number)) (fault_if (is_default last && unfit) (BadLine number)))
   setting_same None = refl
   setting_same (Some name) = repeated_if (is_default (Some name))
 
@@ -131,7 +125,7 @@ fault_same : (dialect : Dialect) (before : List ConfLine) (done : List Setting) 
     → fault_at (reading_of dialect before done) (length before + 1) line below ≡ fault_of dialect before line below
 fault_same dialect before done (section name) below keys = refl
 fault_same dialect before done (setting key own) below keys =
-    setting_same (length before + 1) (machine_key dialect key) (is_taken (named dialect key) (found_of dialect done)) (is_some (named dialect key)) (has_key key (settings_of before))
+    setting_same (length before + 1) (is_taken (named dialect key) (found_of dialect done)) (is_some (named dialect key)) (has_key key (settings_of before))
     (is_unfit (named dialect key) (value_above own below))
     (taken_is dialect key done ∙ ap (λ h. is_some (named dialect key) && h) (has_by_keys key done ∙ ap (list_any (λ k. bytes_eq k key)) keys ∙ sym (has_by_keys key (settings_of before))))
     (section_of before)

@@ -63,8 +63,8 @@ pub trimmed_short : (bytes : List ℕ) → length (trimmed bytes) ≤ length byt
 trimmed_short bytes =
     omega (arith, length-reverse (front_trimmed (reverse (front_trimmed bytes))), front_short (reverse (front_trimmed bytes)), length-reverse (front_trimmed bytes), front_short bytes)
 
--- The name of an id file.
-digits_text : (n : ℕ) → n < 2 ^ 64 → IsText (decimal n)
+-- a number in decimal is a text
+pub digits_text : (n : ℕ) → n < 2 ^ 64 → IsText (decimal n)
 digits_text n small =
     decimal_by_steps (λ k ds. IsText ds) (λ k below. text_one (48 + k) (omega arith) (omega arith))
     (λ k ds past text. text_append ds ((48 + k % 10) ∷ []) text (text_one (48 + k % 10) (omega arith) (omega arith))) n small
@@ -76,6 +76,7 @@ all_text (b ∷ bytes) all =
     let both = and_parts (nat_lt 0 b) (nat_lt b 128) parts.0 in
     text_append (b ∷ []) bytes (text_one b (ltb-true b 128 both.1) (ltb-true 0 b both.0)) (all_text bytes parts.1)
 
+-- the name of an id file
 pub file_name_text : (name : List ℕ) (lane : ℕ) → lane < 64 → name ≡ codes ".testr-ids." ++ decimal lane → IsShortText name
 file_name_text name lane few is = record {
   text = subst IsText (sym is) (text_append (codes ".testr-ids.") (decimal lane) (all_text (codes ".testr-ids.") refl) (digits_text lane (omega arith)));

@@ -2,12 +2,10 @@
 use Rattle.std.specs.Prelude.{ℕ, Bool, true, false, Option, List, [], ◌∷◌, codes}
 use Rattle.std.specs.List.{find}
 use Rattle.std.specs.Str.{bytes_eq}
-use Rattle.testr_conf.specs.declared.fault.MachineKey.{MachineKey}
-use Rattle.testr_conf.specs.declared.fault.MachineKey.TheVariants.{Provision, Execute, Dispose}
 use Rattle.testr_conf.specs.declared.name.Dialect.{Dialect}
 use Rattle.testr_conf.specs.declared.name.Dialect.TheVariants.{Testr, Stestr}
 use Rattle.testr_conf.specs.declared.name.Name.{Name}
-use Rattle.testr_conf.specs.declared.name.Name.TheVariants.{Command, IdOption, ListOption, IdList, Concurrency, GroupRegex, FilterTags, TestPath, TopDir, ParallelClass}
+use Rattle.testr_conf.specs.declared.name.Name.TheVariants.{Command, IdOption, ListOption, IdList, Concurrency, GroupRegex, FilterTags, Provision, Execute, Dispose, TestPath, TopDir, ParallelClass}
 
 -- the key of a name, in small letters
 abbrev pub key_name : Name → List ℕ
@@ -18,13 +16,16 @@ key_name IdList = codes "test_id_list_default"
 key_name Concurrency = codes "test_run_concurrency"
 key_name GroupRegex = codes "group_regex"
 key_name FilterTags = codes "filter_tags"
+key_name Provision = codes "instance_provision"
+key_name Execute = codes "instance_execute"
+key_name Dispose = codes "instance_dispose"
 key_name TestPath = codes "test_path"
 key_name TopDir = codes "top_dir"
 key_name ParallelClass = codes "parallel_class"
 
 -- the names whose keys a file of this dialect has
 abbrev pub dialect_names : Dialect → List Name
-dialect_names Testr = Command ∷ IdOption ∷ ListOption ∷ IdList ∷ Concurrency ∷ GroupRegex ∷ FilterTags ∷ []
+dialect_names Testr = Command ∷ IdOption ∷ ListOption ∷ IdList ∷ Concurrency ∷ GroupRegex ∷ FilterTags ∷ Provision ∷ Execute ∷ Dispose ∷ []
 dialect_names Stestr = TestPath ∷ TopDir ∷ GroupRegex ∷ ParallelClass ∷ []
 
 -- the name whose key this is in a file of this dialect, if any
@@ -42,9 +43,3 @@ has_name Stestr TopDir = true
 has_name Stestr GroupRegex = true
 has_name Stestr ParallelClass = true
 has_name Stestr name = false
-
--- the key of machines of each kind, in small letters
-abbrev pub machine_name : MachineKey → List ℕ
-machine_name Provision = codes "instance_provision"
-machine_name Execute = codes "instance_execute"
-machine_name Dispose = codes "instance_dispose"

@@ -4,16 +4,14 @@ use Rattle.std.specs.List.{fold, find, list_any, take_while, flat_map}
 use Rattle.std.specs.Option.{option_map}
 use Rattle.std.specs.Str.{bytes_eq}
 use Rattle.testr_conf.specs.White.{words_of}
-use Rattle.testr_conf.specs.Names.{key_name, machine_name, named}
+use Rattle.testr_conf.specs.Names.{key_name, named}
 use Rattle.testr_conf.specs.Values.{is_unfit}
 use Rattle.testr_conf.specs.Lines.{ConfLine, bad, skipped, more, section, setting, conf_lines}
 use Rattle.testr_conf.specs.declared.name.Dialect.{Dialect}
 use Rattle.testr_conf.specs.declared.name.Dialect.TheVariants.{Testr, Stestr}
-use Rattle.testr_conf.specs.declared.name.Name.TheVariants.{Command, IdOption, ListOption, IdList, Concurrency, GroupRegex, FilterTags}
+use Rattle.testr_conf.specs.declared.name.Name.TheVariants.{Command, IdOption, ListOption, IdList, Concurrency, GroupRegex, FilterTags, Provision, Execute, Dispose}
 use Rattle.testr_conf.specs.declared.fault.ConfFault.{ConfFault}
-use Rattle.testr_conf.specs.declared.fault.ConfFault.TheVariants.{BadLine, NoSection, Repeated, NotKnown, NoCommand}
-use Rattle.testr_conf.specs.declared.fault.MachineKey.{MachineKey}
-use Rattle.testr_conf.specs.declared.fault.MachineKey.TheVariants.{Provision, Execute, Dispose}
+use Rattle.testr_conf.specs.declared.fault.ConfFault.TheVariants.{BadLine, NoSection, Repeated, NoCommand}
 
 -- Which section a line stands in.
 
@@ -86,19 +84,6 @@ has_key key settings = list_any (λ s. bytes_eq s.key key) settings
 abbrev pub is_repeated : Dialect → List ℕ → List ConfLine → Bool
 is_repeated dialect key before = is_default (section_of before) && is_some (named dialect key) && has_key key (settings_of before)
 
--- which key of machines this is, if any; a file of stestr has none
-abbrev pub machine_key : Dialect → List ℕ → Option MachineKey
-machine_key Testr key =
-    if bytes_eq key (machine_name Provision) then Some Provision
-    else (if bytes_eq key (machine_name Execute) then Some Execute
-    else (if bytes_eq key (machine_name Dispose) then Some Dispose
-    else None))
-machine_key Stestr key = None
-
--- a key of machines in `[DEFAULT]`, where the setting stands in this section, be its value empty or not
-abbrev pub machine_fault : Dialect → List ℕ → Option (List ℕ) → Option ConfFault
-machine_fault dialect key last = if is_default last then option_map NotKnown (machine_key dialect key) else None
-
 -- a value in `[DEFAULT]` that its key may not have, where the setting stands in this section
 abbrev pub is_misfit : Dialect → List ℕ → List ℕ → Option (List ℕ) → Bool
 is_misfit dialect key value last = is_default last && is_unfit (named dialect key) value
@@ -117,9 +102,8 @@ abbrev pub fault_of : Dialect → (before : List ConfLine) → ConfLine → (bel
 fault_of dialect before (section name) below = None
 fault_of dialect before (setting key own) below =
     if is_none (section_of before) then Some (NoSection (length before + 1))
-    else or_later (machine_fault dialect key (section_of before))
-    (or_later (fault_if (is_repeated dialect key before) (Repeated (length before + 1)))
-    (fault_if (is_misfit dialect key (value_above own below) (section_of before)) (BadLine (length before + 1))))
+    else or_later (fault_if (is_repeated dialect key before) (Repeated (length before + 1)))
+    (fault_if (is_misfit dialect key (value_above own below) (section_of before)) (BadLine (length before + 1)))
 fault_of dialect before (more depth text line) below = None
 fault_of dialect before skipped below = None
 fault_of dialect before bad below = Some (BadLine (length before + 1))
@@ -133,6 +117,7 @@ first_fault dialect before (line ∷ lines) = or_later (fault_of dialect before 
 
 -- Of the optional keys, `None` is one that is not set. `folder` is the absolute path of the folder that the project stands
 -- in; nothing where it is not known. `arguments` are the words that stand behind the command of each job that runs tests.
+-- `instances` are those that the jobs of the lanes run on, in their order; none, where they run here.
 pub record Settings : Type 0 where
   pub folder : List ℕ
   pub command : List ℕ
@@ -143,6 +128,10 @@ pub record Settings : Type 0 where
   pub group_regex : Option (List ℕ)
   pub filter_tags : List (List ℕ)
   pub arguments : List (List ℕ)
+  pub provision : Option (List ℕ)
+  pub execute : Option (List ℕ)
+  pub dispose : Option (List ℕ)
+  pub instances : List (List ℕ)
 
 -- the value of the first setting of this key
 abbrev pub setting_value : List ℕ → List Setting → Option (List ℕ)
@@ -176,6 +165,10 @@ with_command (Some command) settings = Ok (record {
   group_regex = set_of (key_name GroupRegex) settings;
   filter_tags = words_in (set_of (key_name FilterTags) settings);
   arguments = [];
+  provision = set_of (key_name Provision) settings;
+  execute = set_of (key_name Execute) settings;
+  dispose = set_of (key_name Dispose) settings;
+  instances = [];
 })
 
 -- what was said, unless a line was refused
@@ -209,3 +202,11 @@ grouped_by pattern settings = record settings { group_regex = or_given pattern s
 -- the same settings, with these words behind the command of each job that runs tests
 abbrev pub with_arguments : List (List ℕ) → Settings → Settings
 with_arguments arguments settings = record settings { arguments = arguments }
+
+-- the same settings, whose jobs run on these instances
+abbrev pub on_instances : List (List ℕ) → Settings → Settings
+on_instances instances settings = record settings { instances = instances }
+
+-- the project asks for instances
+abbrev pub asks_instances : Settings → Bool
+asks_instances settings = is_some settings.provision

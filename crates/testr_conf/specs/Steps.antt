@@ -1,14 +1,12 @@
 -- The lines one after another, as the code reads them.
 use Rattle.std.specs.Prelude.{◌≡◌, ℕ, Bool, false, Option, None, Some, is_some, List, [], Result, Ok, Err, if◌then◌else◌}
 use Rattle.testr_conf.specs.Lines.{ConfLine, bad, skipped, more, section, setting}
-use Rattle.std.specs.Option.{option_map}
-use Rattle.testr_conf.specs.Settings.{Setting, Settings, section_of, is_default, value_above, machine_key, or_later, fault_if, unless_empty, words_in}
+use Rattle.testr_conf.specs.Settings.{Setting, Settings, section_of, is_default, value_above, or_later, fault_if, unless_empty, words_in}
 use Rattle.testr_conf.specs.Names.{named}
 use Rattle.testr_conf.specs.Values.{is_unfit}
 use Rattle.testr_conf.specs.Keys.{found_value, with_value, found_of}
 use Rattle.testr_conf.specs.declared.fault.ConfFault.{ConfFault}
-use Rattle.testr_conf.specs.declared.fault.ConfFault.TheVariants.{BadLine, NoSection, Repeated, NotKnown, NoCommand}
-use Rattle.testr_conf.specs.declared.fault.MachineKey.{MachineKey}
+use Rattle.testr_conf.specs.declared.fault.ConfFault.TheVariants.{BadLine, NoSection, Repeated, NoCommand}
 use Rattle.testr_conf.specs.declared.name.Dialect.{Dialect}
 use Rattle.testr_conf.specs.declared.name.Name.{Name}
 use Rattle.testr_conf.specs.declared.found_values.Found.{Found}
@@ -31,20 +29,17 @@ abbrev pub is_taken : Option Name → Found → Bool
 is_taken None found = false
 is_taken (Some name) found = is_some (found_value name found)
 
--- the fault of a setting in this place, by its line, which key of machines it is, whether its key was taken before, and
--- whether it may not have its value
-abbrev pub setting_fault : Place → ℕ → Option MachineKey → (taken unfit : Bool) → Option ConfFault
-setting_fault Nowhere number machine taken unfit = Some (NoSection number)
-setting_fault Default number machine taken unfit =
-    or_later (option_map NotKnown machine) (or_later (fault_if taken (Repeated number)) (fault_if unfit (BadLine number)))
-setting_fault Elsewhere number machine taken unfit = None
+-- the fault of a setting in this place, by its line, whether its key was taken before, and whether it may not have its value
+abbrev pub setting_fault : Place → ℕ → (taken unfit : Bool) → Option ConfFault
+setting_fault Nowhere number taken unfit = Some (NoSection number)
+setting_fault Default number taken unfit = or_later (fault_if taken (Repeated number)) (fault_if unfit (BadLine number))
+setting_fault Elsewhere number taken unfit = None
 
 -- why the line is refused in front of these, where so much is known
 abbrev pub fault_at : Reading → ℕ → ConfLine → (below : List ConfLine) → Option ConfFault
 fault_at reading number (section name) below = None
 fault_at reading number (setting key own) below =
-    setting_fault reading.place number (machine_key reading.dialect key) (is_taken (named reading.dialect key) reading.found)
-    (is_unfit (named reading.dialect key) (value_above own below))
+    setting_fault reading.place number (is_taken (named reading.dialect key) reading.found) (is_unfit (named reading.dialect key) (value_above own below))
 fault_at reading number (more depth text line) below = None
 fault_at reading number skipped below = None
 fault_at reading number bad below = Some (BadLine number)
@@ -85,6 +80,10 @@ settled_with (Some command) found = Ok (record {
   group_regex = unless_empty found.group_regex;
   filter_tags = words_in (unless_empty found.filter_tags);
   arguments = [];
+  provision = unless_empty found.provision;
+  execute = unless_empty found.execute;
+  dispose = unless_empty found.dispose;
+  instances = [];
 })
 
 -- the settings of what was found

@@ -34,4 +34,8 @@ command_settings command id_option list_option group_regex = record {
   group_regex = group_regex;
   filter_tags = [];
   arguments = [];
+  provision = None;
+  execute = None;
+  dispose = None;
+  instances = [];
 }

@@ -12,23 +12,10 @@ pub enum ConfFault {
     NoSection(u32),
     /// This line sets a key that an earlier one has set.
     Repeated(u32),
-    /// This key is set, which would have the tests run on other machines.
-    NotKnown(MachineKey),
     /// `test_command` is not set, or is empty.
     NoCommand,
     /// There is not enough memory.
     NoMemory,
-}
-
-/// A key of a project whose tests run on other machines. Its tests would run on this one, so it is refused.
-#[derive(Clone, Copy, PartialEq, Eq, Debug)]
-pub enum MachineKey {
-    /// `instance_provision`, which makes machines.
-    Provision,
-    /// `instance_execute`, which runs a command on a machine.
-    Execute,
-    /// `instance_dispose`, which gives machines back.
-    Dispose,
 }
 
 /// A setting that a job needs.

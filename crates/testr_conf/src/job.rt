@@ -1,9 +1,10 @@
 //! The parts of a job.
 
 ghost use Rattle.std.specs.Prelude.{◌≡◌, ◌<◌, ◌∷◌, ◌++◌, true, IfOk, OnOk};
+ghost use Rattle.std.specs.Fmt.{decimal};
 ghost use Rattle.std.specs.List.{flat_map, list_all};
 ghost use Rattle.sub_number.specs.Texts.{IsText};
-ghost use Rattle.testr_conf.specs.Jobs.{plain_job, id_file_name, id_lines, id_list_of, id_file_of, is_plain_byte, is_plain_path, path_in, quoted_byte, single_quoted, arguments_text, followed_by};
+ghost use Rattle.testr_conf.specs.Jobs.{plain_job, id_file_name, id_lines, id_list_of, id_file_of, is_plain_byte, is_plain_path, path_in, files_value, quoted_byte, single_quoted, arguments_text, followed_by};
 
 use edge_io::{IdFile, Job};
 use itoa::Buffer;
@@ -91,6 +92,29 @@ pub(crate) fn id_path(alloc: Global, folder: &str, name: &Text) -> Result<Vec<u8
     } else {
         Ok(Vec::from_slice(alloc, name.bytes())?)
     }
+}
+
+// The path of the id file that a job reads, where the project is in this folder; nothing, where it reads none.
+pub(crate) fn files_value(
+    alloc: Global,
+    folder: &str,
+    file: &Option<IdFile>,
+) -> Result<Vec<u8>, NoMemory>
+    ensures value { IfOk result (λ files. files.items ≡ files_value folder.now file.now) }
+    ensures text { IfOk result (λ files. IsText files.items) }
+{
+    match file {
+        Some(file) => id_path(alloc, folder, &file.name),
+        None => Ok(Vec::new(alloc)),
+    }
+}
+
+// The number in decimal.
+pub(crate) fn decimal_text(alloc: Global, number: u32) -> Result<Vec<u8>, NoMemory>
+    ensures value { IfOk result (λ text. text.items ≡ decimal number) }
+    ensures text { IfOk result (λ text. IsText text.items) }
+{
+    Ok(Vec::from_slice(alloc, Buffer::new().format(number).as_bytes())?)
 }
 
 // The folder, a slash, and the name.

@@ -3,14 +3,14 @@
 //! For want of memory a public call answers `NoMemory`, which comes for nothing else; what it was lent is then as
 //! before, where it does not say otherwise.
 //!
-//! - `conf`: the configuration, read from a text, and its jobs.
+//! - `conf`: the configuration, read from a text, and its jobs, on instances where there are some.
 //! - `fault`: why no configuration was read, and why no job was made.
 //! - `stestr`: what a `.stestr.conf` says.
 //! - `line`: one line of the text.
 //! - `line_reader`: the lines one after another.
 //! - `name`, `found_values`: the keys that are used, and the values found for them.
 //! - `value`: the values that the keys of stestr may have.
-//! - `variable`: the variables of a command, and what stands in their place.
+//! - `variable`: the variables of the settings, and what stands in their place.
 //! - `job`: the parts of a job.
 //! - `white_space`: white space, and the words between it.
 //! - `ids`: lists of ids and of patterns in a file.
@@ -32,9 +32,9 @@ mod variable;
 mod white_space;
 
 pub use conf::Conf;
-pub use fault::{ConfFault, JobFault, Key, MachineKey};
+pub use fault::{ConfFault, JobFault, Key};
 pub use ids::{IdsFault, line_of_pattern, read_ids, read_patterns};
 pub use job::id_lines;
 pub use stestr::StestrValues;
 pub use value::is_path;
-pub use white_space::trim;
+pub use white_space::{read_words, trim};

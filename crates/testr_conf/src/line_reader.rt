@@ -13,7 +13,7 @@ ghost use Rattle.testr_conf.specs.Steps.{place_in_section, reading_of, fault_at,
 use crate::fault::ConfFault;
 use crate::found_values::Found;
 use crate::line::{Line, read_line};
-use crate::name::{Dialect, read_machine, read_name};
+use crate::name::{Dialect, read_name};
 use crate::value::is_unfit;
 use bstr::ByteSlice;
 use std::alloc::Global;
@@ -102,8 +102,7 @@ impl Reading {
         }
     }
 
-    // Keeps the value of a setting of `[DEFAULT]`, if its key is used. A key of machines is refused, and a value that the
-    // key may not have.
+    // Keeps the value of a setting of `[DEFAULT]`, if its key is used. A value that the key may not have is refused.
     fn keep(
         &mut self,
         alloc: Global,
@@ -119,9 +118,6 @@ impl Reading {
         ensures ok { OnOk result (TakesConfLine self.old self.new number (setting (map to_ascii_lowercase key.now) own.now) (lines_below depth below.now)) }
         ensures err { IfErr result (λ fault. (fault_at self.old number (setting (map to_ascii_lowercase key.now) own.now) (lines_below depth below.now) ≡ Some fault) ⊎ (fault ≡ ConfFault.NoMemory)) }
     {
-        if let Some(machine) = read_machine(self.dialect, key) {
-            return Err(ConfFault::NotKnown(machine));
-        }
         let Some(name) = read_name(self.dialect, key) else {
             return Ok(());
         };

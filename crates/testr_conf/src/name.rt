@@ -3,10 +3,7 @@
 ghost use Rattle.std.specs.Prelude.{◌≡◌, map};
 ghost use Rattle.std.specs.Char.{to_ascii_lowercase};
 ghost use Rattle.testr_conf.specs.Names.{named};
-ghost use Rattle.testr_conf.specs.Settings.{machine_key};
 ghost use Rattle.testr_conf.specs.declared.name.Dialect.TheVariants.{Testr, Stestr};
-
-use crate::fault::MachineKey;
 
 // Whose keys a file has.
 #[derive(Clone, Copy)]
@@ -26,6 +23,9 @@ pub(crate) enum Name {
     Concurrency,
     GroupRegex,
     FilterTags,
+    Provision,
+    Execute,
+    Dispose,
     TestPath,
     TopDir,
     ParallelClass,
@@ -58,6 +58,12 @@ fn read_testr_name(key: &[u8]) -> Option<Name>
         Some(Name::GroupRegex)
     } else if key.eq_ignore_ascii_case(b"filter_tags") {
         Some(Name::FilterTags)
+    } else if key.eq_ignore_ascii_case(b"instance_provision") {
+        Some(Name::Provision)
+    } else if key.eq_ignore_ascii_case(b"instance_execute") {
+        Some(Name::Execute)
+    } else if key.eq_ignore_ascii_case(b"instance_dispose") {
+        Some(Name::Dispose)
     } else {
         None
     }
@@ -74,30 +80,6 @@ fn read_stestr_name(key: &[u8]) -> Option<Name>
         Some(Name::GroupRegex)
     } else if key.eq_ignore_ascii_case(b"parallel_class") {
         Some(Name::ParallelClass)
-    } else {
-        None
-    }
-}
-
-// Which key of machines this is, whose letters may be capital ones. `None` comes exactly where the file has none, or it is none.
-pub(crate) fn read_machine(dialect: Dialect, key: &[u8]) -> Option<MachineKey>
-    ensures { result ≡ machine_key dialect (map to_ascii_lowercase key.now) }
-{
-    match dialect {
-        Dialect::Testr => read_testr_machine(key),
-        Dialect::Stestr => None,
-    }
-}
-
-fn read_testr_machine(key: &[u8]) -> Option<MachineKey>
-    ensures { result ≡ machine_key Testr (map to_ascii_lowercase key.now) }
-{
-    if key.eq_ignore_ascii_case(b"instance_provision") {
-        Some(MachineKey::Provision)
-    } else if key.eq_ignore_ascii_case(b"instance_execute") {
-        Some(MachineKey::Execute)
-    } else if key.eq_ignore_ascii_case(b"instance_dispose") {
-        Some(MachineKey::Dispose)
     } else {
         None
     }

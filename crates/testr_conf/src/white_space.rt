@@ -77,8 +77,8 @@ fn push_word(alloc: Global, word: &[u8], words: &mut Tags) -> Result<(), NoMemor
     }
 }
 
-// The words between white space and newlines.
-pub(crate) fn read_words(alloc: Global, text: &[u8]) -> Result<Tags, NoMemory>
+/// The words of a text between white space and newlines, in order.
+pub fn read_words(alloc: Global, text: &[u8]) -> Result<Tags, NoMemory>
     requires { IsShortText text.now }
     ensures { IfOk result (λ words. words ≡ words_of text.now) }
 {

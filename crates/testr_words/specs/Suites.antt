@@ -1,5 +1,5 @@
 -- What `load`, `run` and `list-tests` ask for.
-use Rattle.std.specs.Prelude.{Bool, not, ◌||◌, nat_eq, Option, List, ℕ, length, is_some}
+use Rattle.std.specs.Prelude.{Bool, true, not, ◌||◌, nat_eq, Option, Some, List, ℕ, length, is_some}
 use Rattle.testr_words.specs.declared.command.Command.{Command}
 use Rattle.testr_words.specs.declared.command.Face.{Face}
 use Rattle.testr_words.specs.declared.format.FormatKind.{FormatKind}
@@ -36,18 +36,22 @@ wanted_of command = record {
   times = command.times;
 }
 
--- the project whose tests are run, and what the words say of it
+-- the project whose tests are run, and what is said of it
 pub record Project : Type 0 where
   -- the absolute path of its folder; empty where it is not known
   pub folder : List ℕ
   -- by which name the program was called
   pub face : Face
-  -- what stands in place of the configuration's values, and behind its commands
+  -- what stands in place of the configuration's values, and behind its commands; and the instances that its jobs run on
   pub words : ProjectWords
 
 -- the project in the folder of this path, of which the command says something
 abbrev pub project_of : List ℕ → Command → Project
 project_of folder command = record { folder = folder; face = command.face; words = command.project }
+
+-- the same command over the project on these instances, as if its words said so many workers
+abbrev pub on_these : (workers : ℕ) → (instances : List (List ℕ)) → Command → Command
+on_these workers instances command = record command { parallel = true; concurrency = workers; project = record command.project { instances = Some instances } }
 
 -- what `load` is asked to do, but for its names
 pub record LoadOptions : Type 0 where

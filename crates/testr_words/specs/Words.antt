@@ -310,11 +310,11 @@ project_in items arguments =
     and_then (path_given top_dir_word items) (λ top_dir.
     and_then (file_in group_regex_word items) (λ group_regex.
     and_then (if_texts arguments) (λ arguments.
-    Some (record { test_path = test_path; top_dir = top_dir; group_regex = group_regex; arguments = arguments })))))
+    Some (record { test_path = test_path; top_dir = top_dir; group_regex = group_regex; arguments = arguments; instances = None })))))
 
 -- nothing is said of it
 abbrev pub no_project_words : ProjectWords
-no_project_words = record { test_path = None; top_dir = None; group_regex = None; arguments = [] }
+no_project_words = record { test_path = None; top_dir = None; group_regex = None; arguments = []; instances = None }
 
 -- the command, which says this of the project
 abbrev pub with_project : ProjectWords → Command → Command

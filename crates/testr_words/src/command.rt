@@ -44,7 +44,8 @@ pub enum Verb {
     Upgrade,
 }
 
-/// What words say of a project: what stands in place of its configuration's values, and behind its commands.
+/// What is said of a project: what stands in place of its configuration's values, and behind its commands; and what its jobs
+/// run on.
 #[derive(Drop)]
 pub struct ProjectWords {
     /// The path of the tests.
@@ -55,6 +56,8 @@ pub struct ProjectWords {
     pub group_regex: Option<Text>,
     /// The words that stand behind the command of each job that runs tests, in their order.
     pub arguments: IdList,
+    /// The instances that its jobs run on, where some were provisioned for it. No word tells them.
+    pub instances: Option<IdList>,
 }
 
 impl ProjectWords {
@@ -70,6 +73,7 @@ impl ProjectWords {
             top_dir: None,
             group_regex: None,
             arguments: IdList::new(alloc),
+            instances: None,
         }
     }
 }
@@ -140,7 +144,7 @@ pub struct Command {
 impl Command {
     ghost use Rattle.std.specs.Prelude.{◌≡◌, List, ℕ, None, option_map, nat_le, length, if◌then◌else◌};
     ghost use Rattle.testr_words.specs.Tasks.{last_question, failing_question, forces as is_forced, forces_quiet as is_forced_quietly, hides as is_hidden, hides_quiet as is_hidden_quietly, warns as is_warned, live_of, live_quiet, streams as is_streamed, streams_quiet as is_streamed_quietly, expects as expected_for, expects_quiet as expected_quietly_for};
-    ghost use Rattle.testr_words.specs.Suites.{wanted_of, is_choosing};
+    ghost use Rattle.testr_words.specs.Suites.{wanted_of, is_choosing, on_these};
     ghost use Rattle.testr_words.specs.Words.{with_project};
 
     /// What is asked of the last run by `last`: its bytes, where these are wanted; else its report, with why tests were
@@ -294,6 +298,16 @@ impl Command {
         ensures { result ≡ with_project project self }
     {
         Command { project, ..self }
+    }
+
+    /// The same command over the project on these instances, with so many workers.
+    pub fn on_instances(mut self, instances: IdList, workers: u32) -> Self
+        ensures { result ≡ on_these workers instances self }
+    {
+        self.parallel = true;
+        self.concurrency = workers;
+        self.project.instances = Some(instances);
+        self
     }
 
     /// Whether it says by a pattern, a file of patterns or a shard which tests are wanted.

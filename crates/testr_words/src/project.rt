@@ -43,6 +43,7 @@ pub(crate) fn project_in(
         top_dir,
         group_regex,
         arguments,
+        instances: None,
     }))
 }
 

@@ -1,4 +1,4 @@
-use Rattle.std.proofs.Common.{Option, Some, None, Ok, Err, subst}
+use Rattle.std.proofs.Common.{◌∙◌, Option, Some, None, Ok, Err, subst}
 use Rattle.suite_plan.specs.ConfFile.{second_file, file_says, ReadsSaid}
 use Rattle.suite_plan.specs.declared.conf_file.ConfFile.{ConfFile}
 use Rattle.suite_plan.specs.declared.conf_file.ConfFile.TheVariants.{PyProject}
@@ -13,6 +13,7 @@ returns-in-Ok-None g c = record {
       (subst (λ (f : ConfFile). ReadsSaid (file_says c.args.words.now f) (g.F.Site.seen c.args.site.now) (g.F.Site.seen c.read_one.new.site) (Ok None)) c.second.ensures
       (subst (λ (o : Option Settings). ReadsSaid (file_says c.args.words.now c.second.result) (g.F.Site.seen c.args.site.now) (g.F.Site.seen c.read_one.new.site) (Ok o)) c.in-Ok-None.field-0-is c.in-Ok-None.ensures.step))
       c.read_one-in-Ok-None.result c.read_one-in-Ok-None.ensures.step;
+  path = c.read_one-in-Ok-None.ensures.path ∙ c.in-Ok-None.ensures.path;
 }
 
 pub returns-in-Ok-Some : goal.returns-in-Ok-Some
@@ -20,10 +21,12 @@ returns-in-Ok-Some g c = record {
   step = first_says (file_says c.args.words.now (second_file c.args.face)) (file_says c.args.words.now PyProject) (g.F.Site.seen c.args.site.now) (g.F.Site.seen c.read_one.new.site) c.in-Ok-Some.conf
       (subst (λ (f : ConfFile). ReadsSaid (file_says c.args.words.now f) (g.F.Site.seen c.args.site.now) (g.F.Site.seen c.read_one.new.site) (Ok (Some c.in-Ok-Some.conf))) c.second.ensures
       (subst (λ (o : Option Settings). ReadsSaid (file_says c.args.words.now c.second.result) (g.F.Site.seen c.args.site.now) (g.F.Site.seen c.read_one.new.site) (Ok o)) c.in-Ok-Some.field-0-is c.in-Ok-Some.ensures.step));
+  path = c.in-Ok-Some.ensures.path;
 }
 
 pub returns-in-Err : goal.returns-in-Err
 returns-in-Err g c = record {
   step = first_refuses (file_says c.args.words.now (second_file c.args.face)) (file_says c.args.words.now PyProject) (g.F.Site.seen c.args.site.now) (g.F.Site.seen c.read_one.new.site) c.in-Err.refusal
       (subst (λ (f : ConfFile). ReadsSaid (file_says c.args.words.now f) (g.F.Site.seen c.args.site.now) (g.F.Site.seen c.read_one.new.site) (Err c.in-Err.refusal)) c.second.ensures c.in-Err.ensures.step);
+  path = c.in-Err.ensures.path;
 }

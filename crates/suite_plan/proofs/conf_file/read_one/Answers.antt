@@ -21,6 +21,7 @@ returns-in-Ok-Some g c =
           (subst (λ l. IsFileOf (g.F.Site.seen c.args.site.now).told (conf_file_name c.args.file) (Some l)) text_is there)
           (subst (λ l. length l ≤ most_text) text_is short)
           c.in-Ok-Some.ensures.count c.read_text.ensures;
+      path = c.in-Ok-Some.ensures.path;
     }
 
 pub returns-in-Ok-None : goal.returns-in-Ok-None
@@ -29,11 +30,13 @@ returns-in-Ok-None g c = record {
       (subst (λ n. IsFileOf (g.F.Site.seen c.args.site.now).told n None) c.name.ensures
       (subst (λ o. IsFileOf (g.F.Site.seen c.args.site.now).told c.name.result.now (option_map (λ bytes. bytes.items) o)) c.in-Ok-None.field-0-is c.in-Ok-None.ensures.file))
       c.in-Ok-None.ensures.count;
+  path = c.in-Ok-None.ensures.path;
 }
 
 pub returns-in-Err : goal.returns-in-Err
 returns-in-Err g c = record {
-  step = subst (λ (r : ConfRefusal). ReadsSaid (file_says c.args.words.now c.args.file) (g.F.Site.seen c.args.site.now) (g.F.Site.seen c.read_file.new.site) (Err r)) (sym c.unread.ensures)
-      (unread_as c.args.words.now c.args.file _ _ c.read_file.ensures.same c.read_file.result c.in-Err.fault c.in-Err.is
-      (subst (λ n. IsTooLong (g.F.Site.seen c.args.site.now).told n most_text c.read_file.result) c.name.ensures c.read_file.ensures.too_long) c.read_file.ensures.count);
+  step = subst (λ (r : ConfRefusal). ReadsSaid (file_says c.args.words.now c.args.file) (g.F.Site.seen c.args.site.now) (g.F.Site.seen c.read_whole.new.site) (Err r)) (sym c.unread.ensures)
+      (unread_as c.args.words.now c.args.file _ _ c.read_whole.ensures.same c.read_whole.result c.in-Err.fault c.in-Err.is
+      (subst (λ n. IsTooLong (g.F.Site.seen c.args.site.now).told n most_text c.read_whole.result) c.name.ensures c.read_whole.ensures.too_long) c.read_whole.ensures.count);
+  path = c.read_whole.ensures.path;
 }

@@ -1,6 +1,6 @@
 use Rattle.std.proofs.Common.{inl, inr, refl, subst, List, ℕ}
 use Rattle.command_steps.specs.Outside.{outside}
-use Rattle.testr_commands.specs.WholeCall.{TestrPromises}
+use Rattle.testr_commands.specs.Elsewhere.{TestrPromises}
 use Rattle.testr_cli.proofs.CopyLemmas.{copy_complete}
 use Rattle.testr_cli.proofs.FromLemmas.{told_fault}
 use Rattle.testr_cli.proofs.upgrade_from.upgrade_from.Goals as goal

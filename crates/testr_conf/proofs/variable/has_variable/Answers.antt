@@ -1,12 +1,13 @@
 use Rattle.std.proofs.Common.{◌+◌, sym, ap, ◌∙◌, length, arith}
 use Rattle.std.proofs.lemmas.List.{take_rest, length-drop}
 use Rattle.testr_conf.specs.Filled.{FirstVariable}
+use Rattle.testr_conf.specs.declared.variable.Template.TheVariants.{Test}
 use Rattle.testr_conf.proofs.PieceLemmas.{has_behind, has_none}
 use Rattle.testr_conf.proofs.variable.has_variable.Goals as goal
 
 pub overflow_add-rest : goal.overflow_add-rest
 overflow_add-rest c =
-    let first : FirstVariable c.loop-at.rest.now c.in-Some.at c.in-Some.variable = c.in-Some.ensures.some in
+    let first : FirstVariable Test c.loop-at.rest.now c.in-Some.at c.in-Some.variable = c.in-Some.ensures.some in
     omega (arith, first.in_range, ap length c.name-in-Some-2.ensures, c.loop-at.invariant.shorter)
 
 pub loop-at-preserved : goal.loop-at-preserved
