@@ -36,7 +36,7 @@ impl From<AllocError> for ReadFault {
 
 /// Reads the whole file of this name, of at most `most` bytes; none where there is no such file. `TooLong` comes exactly
 /// where it has more, unless a read failed or memory was wanting before that was seen, and `Failed` only where a read
-/// failed, which counts. No file changes.
+/// failed, which counts. No file changes, and the folder of the site stays.
 pub fn read_file<F: Site>(
     alloc: Global,
     site: &mut F,
@@ -48,6 +48,7 @@ pub fn read_file<F: Site>(
     ensures too_long { IsTooLong (F.seen site.old).told name.now most result }
     ensures same { (F.seen site.new).told ≡ (F.seen site.old).told }
     ensures count { CountsFailed (F.seen site.old).faults (F.seen site.new).faults result }
+    ensures path { F.folder site.new ≡ F.folder site.old }
 {
     let mut bytes = Vec::new(alloc);
     let mut piece = [0u8; PIECE];

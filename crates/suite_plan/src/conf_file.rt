@@ -8,8 +8,7 @@ ghost use Rattle.testr_conf.specs.Settings.{conf_of, on_instances};
 ghost use Rattle.testr_conf.specs.Stestr.{stestr_of};
 
 use crate::texts::MOST_TEXT;
-use crate::whole::read_whole;
-use edge_io::{ReadFault, Site};
+use edge_io::{ReadFault, Site, read_file};
 use std::alloc::Global;
 use stestr_conf::{SettleFault, TableFault, TableKey, read_table, settings_of_values};
 use sub_number::{IdList, NoMemory as OutOfMemory, Text};
@@ -317,7 +316,7 @@ fn read_one<F: Site>(
     ensures step { ReadsSaid (file_says words.now file) (F.seen site.old) (F.seen site.new) result }
     ensures path { F.folder site.new ≡ F.folder site.old }
 {
-    match read_whole(alloc, site, file.name(), MOST_TEXT) {
+    match read_file(alloc, site, file.name(), MOST_TEXT) {
         Ok(Some(text)) => read_text(alloc, words, file, &text),
         Ok(None) => Ok(None),
         Err(fault) => Err(unread(file, fault)),

@@ -8,7 +8,7 @@
 //! For want of memory a public call answers `NoMemory`, which comes for nothing else; what it was lent is then as
 //! before, where it does not say otherwise. What it did outside by then stands.
 //!
-//! - `texts`, `whole`: files that are read whole, and must not be too long
+//! - `texts`: files that are read whole, and must not be too long
 //! - `conf_file`, `load_list`, `pattern_list`, `processors`: the configuration, a list of ids, one of patterns, and the table
 //!   of processors
 //! - `output`, `listing_reader`, `notes`: what a child gives, read to its end
@@ -42,7 +42,6 @@ mod provisioning;
 mod tail;
 mod test_listing;
 mod texts;
-mod whole;
 mod worker_shares;
 
 pub use choice::{choose_ids, chosen_ids, ids_in_both};

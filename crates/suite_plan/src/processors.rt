@@ -5,10 +5,9 @@ ghost use Rattle.suite_plan.specs.Processors.{CountsProcessors, processors_in, c
 ghost use Rattle.suite_plan.specs.Texts.{most_text};
 
 use crate::texts::MOST_TEXT;
-use crate::whole::read_whole;
 use crate::worker_shares::MOST_WORKERS;
 use bstr::ByteSlice;
-use edge_io::{ReadFault, Site};
+use edge_io::{ReadFault, Site, read_file};
 use std::alloc::Global;
 
 /// Why the processors were not counted.
@@ -69,7 +68,7 @@ pub fn count_processors<F: Site>(alloc: Global, site: &mut F) -> Result<u32, Tab
     ensures step { CountsProcessors (F.seen site.old) (F.seen site.new) result }
     ensures path { F.folder site.new ≡ F.folder site.old }
 {
-    match read_whole(alloc, site, "/proc/cpuinfo", MOST_TEXT)? {
+    match read_file(alloc, site, "/proc/cpuinfo", MOST_TEXT)? {
         Some(table) => Ok(clamp_workers(processors_in(&table))),
         None => Ok(1),
     }

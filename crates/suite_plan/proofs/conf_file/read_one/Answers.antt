@@ -35,8 +35,8 @@ returns-in-Ok-None g c = record {
 
 pub returns-in-Err : goal.returns-in-Err
 returns-in-Err g c = record {
-  step = subst (λ (r : ConfRefusal). ReadsSaid (file_says c.args.words.now c.args.file) (g.F.Site.seen c.args.site.now) (g.F.Site.seen c.read_whole.new.site) (Err r)) (sym c.unread.ensures)
-      (unread_as c.args.words.now c.args.file _ _ c.read_whole.ensures.same c.read_whole.result c.in-Err.fault c.in-Err.is
-      (subst (λ n. IsTooLong (g.F.Site.seen c.args.site.now).told n most_text c.read_whole.result) c.name.ensures c.read_whole.ensures.too_long) c.read_whole.ensures.count);
-  path = c.read_whole.ensures.path;
+  step = subst (λ (r : ConfRefusal). ReadsSaid (file_says c.args.words.now c.args.file) (g.F.Site.seen c.args.site.now) (g.F.Site.seen c.read_file.new.site) (Err r)) (sym c.unread.ensures)
+      (unread_as c.args.words.now c.args.file _ _ c.read_file.ensures.same c.read_file.result c.in-Err.fault c.in-Err.is
+      (subst (λ n. IsTooLong (g.F.Site.seen c.args.site.now).told n most_text c.read_file.result) c.name.ensures c.read_file.ensures.too_long) c.read_file.ensures.count);
+  path = c.read_file.ensures.path;
 }
