@@ -1,12 +1,13 @@
 -- The character that foreign bytes leave open.
-use Rattle.std.proofs.Common.{◌≡◌, ℕ, ◌+◌, ◌-◌, ◌/◌, ◌%◌, ◌≤◌, ◌<◌, Bool, true, false, List, [], ◌∷◌, ◌++◌, refl, sym, subst, ◌∙◌, inl, inr, arith}
+use Rattle.std.proofs.Common.{◌≡◌, ℕ, ◌+◌, ◌-◌, ◌/◌, ◌%◌, ◌≤◌, ◌<◌, ◌⊎◌, Bool, true, false, List, [], ◌∷◌, ◌++◌, length, drop, get_or, zero, suc, refl, sym, subst, ◌∙◌, inl, inr, arith}
 use Rattle.std.specs.Prelude.{cond, nat_lt, ◌&&◌}
 use Rattle.std.specs.Str.{IsUtf8, encode_utf8_all, all_scalars}
 use Rattle.std.specs.Char.{encode_utf8, IsScalar}
 use Rattle.std.proofs.lemmas.Bool.{cond-true, cond-false, lt-ltb, le-ltb, cases_lt}
 use Rattle.std.proofs.Math.Utf8.{scalar, scalar_cases}
 use Rattle.packet_codec.specs.Packet.{signature}
-use Rattle.stream_end.specs.Character.{missing_after_byte}
+use Rattle.std.proofs.lemmas.List.{at_drop_more}
+use Rattle.stream_end.specs.Character.{missing_after_byte, missing_after_bytes}
 
 -- ---- a byte
 
@@ -33,6 +34,28 @@ after_three missing byte low high = after_high missing byte (omega arith) ∙ co
 after_four : (missing byte : ℕ) → 240 ≤ byte → byte < 245 → missing_after_byte missing byte ≡ 3
 after_four missing byte low high =
     after_high missing byte (omega arith) ∙ cond-false _ _ _ (le-ltb byte 224 (omega arith)) ∙ cond-false _ _ _ (le-ltb byte 240 low) ∙ cond-true _ _ _ (lt-ltb byte 245 high)
+
+-- a byte that goes on with no character leaves open what it leaves open behind any
+after_begin : (a b byte : ℕ) → byte < 128 ⊎ 192 ≤ byte → missing_after_byte a byte ≡ missing_after_byte b byte
+unfolding missing_after_byte
+after_begin a b byte (inl low) = cond-true _ _ _ (lt-ltb byte 128 low) ∙ sym (cond-true _ _ _ (lt-ltb byte 128 low))
+after_begin a b byte (inr high) =
+    cond-false _ _ _ (le-ltb byte 128 (omega arith)) ∙ cond-false _ _ _ (le-ltb byte 192 high)
+    ∙ sym (cond-false _ _ _ (le-ltb byte 128 (omega arith)) ∙ cond-false _ _ _ (le-ltb byte 192 high))
+
+begin_alike : (a b place : ℕ) (bytes : List ℕ) → place < length bytes → get_or bytes place 0 < 128 ⊎ 192 ≤ get_or bytes place 0 → missing_after_bytes a (drop place bytes) ≡ missing_after_bytes b (drop place bytes)
+begin_alike a b place bytes within begins =
+    at_drop_more (missing_after_bytes a) bytes place 0 within
+    ∙ subst (λ missing. missing_after_bytes (missing_after_byte a (get_or bytes place 0)) (drop (place + 1) bytes) ≡ missing_after_bytes missing (drop (place + 1) bytes)) (after_begin a b (get_or bytes place 0) begins) refl
+    ∙ sym (at_drop_more (missing_after_bytes b) bytes place 0 within)
+
+-- so what is open behind bytes rests on none in front of such a byte
+pub alike_from : (missing place : ℕ) (bytes : List ℕ) → place < length bytes → get_or bytes place 0 < 128 ⊎ 192 ≤ get_or bytes place 0 → missing_after_bytes missing bytes ≡ missing_after_bytes missing (drop place bytes)
+alike_from missing place [] within begins = absurd (omega (arith, within))
+alike_from missing zero (byte ∷ bytes) within begins = refl
+alike_from missing (suc place) (byte ∷ bytes) within begins =
+    alike_from (missing_after_byte missing byte) place bytes (omega (arith, within)) begins
+    ∙ begin_alike (missing_after_byte missing byte) missing place bytes (omega (arith, within)) begins
 
 -- ---- a text
 

@@ -1,6 +1,6 @@
 //! The character that foreign bytes leave open.
 
-ghost use Rattle.std.specs.Prelude.{◌≡◌, ◌≤◌, ◌↔◌, true};
+ghost use Rattle.std.specs.Prelude.{◌≡◌, ◌≤◌, ◌↔◌, ℕ, length, drop, true};
 ghost use Rattle.stream_reader.specs.First.{FirstIs, IsMadeBy};
 ghost use Rattle.stream_reader.specs.Stream.{GivesNote};
 ghost use Rattle.stream_reader.specs.declared.note.Note.{Note as ANote};
@@ -46,6 +46,13 @@ impl OpenCharacter {
     pub fn hear(&mut self, foreign: &[u8])
         ensures { self.new ≡ missing_after_bytes self.old foreign.now }
     {
+        self.hear_each(&foreign[last_begin(foreign)..]);
+    }
+
+    // The next foreign bytes, each of which is looked at.
+    fn hear_each(&mut self, foreign: &[u8])
+        ensures { self.new ≡ missing_after_bytes self.old foreign.now }
+    {
         for &byte in foreign {
             self.missing = missing_after_byte(self.missing, byte);
         }
@@ -67,6 +74,23 @@ impl OpenCharacter {
         }
         reader.pass(first);
     }
+}
+
+// The place of the last byte that goes on with no character, or that of the first byte. What is open behind the bytes
+// rests on none in front of it.
+fn last_begin(foreign: &[u8]) -> usize
+    ensures within { result ≤ length foreign.now }
+    ensures alike { (missing : ℕ) → missing_after_bytes missing foreign.now ≡ missing_after_bytes missing (drop result foreign.now) }
+{
+    let mut place = foreign.len();
+    while place > 0 {
+        place -= 1;
+        let byte = foreign[place];
+        if byte < 0x80 || byte >= 0xc0 {
+            return place;
+        }
+    }
+    0
 }
 
 // How many bytes are missing behind a byte.
