@@ -18,7 +18,8 @@ pub record EndsAsHeld (missing : ℕ) (fed : List ℕ) (now : ℕ) (held : List 
   pub left : AreBytes held
   pub alike : (more : List ℕ) → AreBytes more → ends_inside_behind missing (fed ++ more) ≡ ends_inside_behind now (held ++ more)
 
--- With these bytes fed, of which these are held behind so many missing ones, it has taken all notes that they decide, and this text was appended.
+-- Of the bytes fed, these are held behind a character to which so many are missing. It has taken all notes that they
+-- decide, and this text was appended.
 pub record HasFiltered (takes : List Note → Type 0) (plan : Plan) (missing : ℕ) (held fed shown : List ℕ) : Type 0 where
   pub notes : List Note
   pub taken : takes notes
