@@ -3,7 +3,8 @@
 # loaded before that of the C library refuses, until a run asks for fewer. It must end with 5, with 4 where it was a fault of
 # an object of the outside, or as without the refusal; standard error names the cause, and standard output is a first part
 # of what is printed without. Behind `load`, and `run` of two workers, the repository opens with its run, or with the new one
-# too, and both are whole; the caches are those of first runs, and no file of ids and no draft is left.
+# too, and both are whole; the caches are those of first runs, and no file of ids and no draft is left. Instances that were
+# provisioned are disposed of, once.
 # usage: bench/memory.sh [CASE..]: by default all cases. Where there is no `cc`, nothing is tried, and the status is 0.
 set -eu
 
@@ -123,10 +124,11 @@ class Command:
     def call(self, folder, **how):
         return run(folder, *self.words, given=self.given, program=[PROGRAM, self.name], **how)
 
-    def refused(self, place):
+    def refused(self, place, **others):
         """What it answers where that allocation is refused, in a new folder; and whether it asked for so many."""
         folder, mark = self.folder(), os.path.join(os.path.dirname(PRELOADED), "mark")
-        answer = self.call(folder, env={**os.environ, "LD_PRELOAD": PRELOADED, "REFUSE": str(place), "MARK": mark})
+        given = {"LD_PRELOAD": PRELOADED, "REFUSE": str(place), "MARK": mark, **others}
+        answer = self.call(folder, env={**os.environ, **given})
         was_refused = os.path.exists(mark)
         if was_refused:
             os.remove(mark)
@@ -224,6 +226,53 @@ class OverRun(Command):
         check(not left, f"{left} are left")
 
 
+# Instances of a project, which say in files what they were asked for. Their names are known, and the output is closed,
+# before it says so.
+MACHINES = b"""#!/bin/sh
+case $1 in
+provision) echo two one; exec >&-; [ -z "${SLOW-}" ] || sleep "$SLOW"; echo "$2" >> provisioned ;;
+execute) shift 2; echo >> executed; exec "$@" ;;
+*) shift; echo "$@" >> disposed ;;
+esac
+"""
+ON_MACHINES = CONF + """instance_provision=exec ./machines provision $INSTANCE_COUNT
+instance_execute=exec ./machines execute $INSTANCE_ID $COMMAND
+instance_dispose=exec ./machines dispose $INSTANCE_IDS
+"""
+
+
+def said_in(folder, name):
+    """What instances said in a file, nothing where there is none."""
+    try:
+        with open(os.path.join(folder, name)) as file:
+            return file.read()
+    except FileNotFoundError:
+        return ""
+
+
+class OnInstances(OverRun):
+    """A run on two instances. Where their provisioning has ended, they are disposed of, once."""
+
+    def kind_of(self, answer):
+        # Where the memory is wanting for the disposal, run and status stay, and its fault is told behind all else.
+        lines = answer[2].splitlines(True)
+        is_told = lines[:1] == [b"testr: fault starting a program\n"] and len(lines) <= 2
+        self.is_kept = answer[:2] == self.whole[:2] and is_told
+        return "a fault" if self.is_kept else super().kind_of(answer)
+
+    def look(self, folder, place, status):
+        super().look(folder, place, status)
+        made, used, given = (said_in(folder, name) for name in ("provisioned", "executed", "disposed"))
+        check(made in ("", "2\n") and given in ("", "\n", "one two\n"), f"provisioned {made!r}, disposed {given!r}")
+        check(made or not used and not given, "instances were not provisioned, and used all the same")
+        if made and not given and not self.is_kept:
+            # Their provisioning was stopped before its end, which is seen where it takes its time to end.
+            check(not used and status == 5, f"status {status}, and no disposal")
+            slow, _, _ = self.refused(place, SLOW="2")
+            check(not said_in(slow, "provisioned"), "instances are kept")
+            shutil.rmtree(slow)
+
+
 def store(folder=None):
     """A folder with a repository of one run: a new one, or that of a project, which has a repository."""
     if folder is None:
@@ -239,6 +288,10 @@ def store(folder=None):
 def commands():
     # A stop ends the shell alone, so the worker takes its place.
     made, suite = store(), store(project(conf=CONF.replace("=./worker", "=exec ./worker")))
+    machines = project(conf=ON_MACHINES)
+    write(machines, "machines", MACHINES)
+    os.chmod(os.path.join(machines, "machines"), 0o755)
+    store(machines)
     ones, twos = kept((b"a", b"c")), kept((b"b",), b"1")
     middle = len(ones) // 2
     merges = (ones + twos, twos + ones, ones[:middle] + twos + ones[middle:])
@@ -246,6 +299,7 @@ def commands():
     yield "load", OverRun(["load"], made, GIVEN, (KEPT,))
     yield "load", OverRun(["load", "one", "two"], made, wholes=(KEPT + b"".join(packets(b"1")),))
     yield "run", OverRun(["run", "--parallel", "--concurrency=2"], suite, wholes=merges)
+    yield "instances", OnInstances(["run", "--parallel", "--concurrency=2"], machines, wholes=merges)
     yield "run", OverRun(["run", "--find-causes"], suite, wholes=(kept((b"a", b"b", b"c")),))
     yield "list-tests", OverRun(["list-tests", "a|b"], suite)
     for words in (["last"], ["last", "--subunit"], ["failing"], ["slowest"], ["stats"]):
