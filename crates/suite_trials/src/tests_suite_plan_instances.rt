@@ -102,7 +102,7 @@ enum Why {
     NoMemory,
 }
 
-fn why(refusal: &ProvisionRefusal) -> Why {
+fn why_of(refusal: &ProvisionRefusal) -> Why {
     match refusal {
         ProvisionRefusal::Spawn => Why::Spawn,
         ProvisionRefusal::Child => Why::Child,
@@ -118,7 +118,7 @@ fn refused(alloc: Global, output: &[u8], finish: Finish) -> Option<Why> {
     let mut spawner = one_child(alloc, output, 5, finish)?;
     let refusal = provision(alloc, &conf, 4, &mut spawner).err()?;
     if started(&spawner, b"make 4") {
-        Some(why(&refusal))
+        Some(why_of(&refusal))
     } else {
         None
     }
@@ -200,7 +200,7 @@ fn without_child(alloc: Global, text: &[u8]) -> Option<Result<bool, Why>> {
     }
     match answer {
         Ok(instances) => Some(Ok(instances.is_some())),
-        Err(refusal) => Some(Err(why(&refusal))),
+        Err(refusal) => Some(Err(why_of(&refusal))),
     }
 }
 
