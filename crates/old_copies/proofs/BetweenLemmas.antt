@@ -4,7 +4,7 @@ use Rattle.edge_io.specs.Disk.{Files, Disk, Folder, IsImage}
 use Rattle.edge_io.proofs.Passing.{passes_then, passes_weaker}
 use Rattle.run_shelf.specs.Images.{AtRest}
 use Rattle.run_shelf.proofs.Joining.{rest_images}
-use Rattle.old_copies.specs.Copying.{Either, Between, HasCopies, HoldsOther, PassesCopies, Copies}
+use Rattle.old_copies.specs.Copying.{Either, Between, HasCopies, HoldsOnlyCopies, HoldsOther, PassesCopies, Copies}
 
 pub between_self : (Of : List ℕ → Type 0) (old files : Files) → Between Of old files files
 between_self Of old files name = inl refl
@@ -25,10 +25,13 @@ between_then Of old files now image first second name = elim (second name) [
 ]
 
 -- a wider set of names
-pub copies_wider : (A B : List ℕ → Type 0) (old files image : Files) → ((name : List ℕ) → A name → B name) → ((name : List ℕ) → B name → A name) → HasCopies A old files image → HasCopies B old files image
-copies_wider A B old files image wider back has = record {
-  each = λ name named. has.each name (back name named);
-  between = between_wider A B old files image wider has.between;
+pub copies_wider : (A B : List ℕ → Type 0) (old : Files) (s t : Folder) → ((name : List ℕ) → A name → B name) → ((name : List ℕ) → B name → A name) → Copies A old s t → Copies B old s t
+copies_wider A B old s t wider back copies = record {
+  has = record {
+    each = λ name named. copies.has.each name (back name named);
+    between = between_wider A B old s.disk.published t.disk.published wider copies.has.between;
+  };
+  stood = λ name named. copies.stood name (back name named);
 }
 
 pub passes_wider : (A B : List ℕ → Type 0) (old : Files) → ((name : List ℕ) → A name → B name) → (s t : Folder) → PassesCopies A old s t → PassesCopies B old s t
@@ -55,7 +58,7 @@ module _ (A B : List ℕ → Type 0) (old : Files) where
     both_between image second =
         between_then (Either A B) old files now image (between_wider A (Either A B) old files now left first.between) (between_wider B (Either A B) old now image right second)
 
-    pub copies_then : (image : Files) → HasCopies B old now image → HasCopies (Either A B) old files image
+    copies_then : (image : Files) → HasCopies B old now image → HasCopies (Either A B) old files image
     copies_then image second = record { each = each_of; between = both_between image second.between }
       where
         each_of : (name : List ℕ) → Either A B name → image name ≡ old name
@@ -71,12 +74,26 @@ module _ (A B : List ℕ → Type 0) (old : Files) where
       | inl same ↦ record { name = holds.name; named = inr holds.named; there = subst IsSome same holds.there; other = λ e. holds.other (same ∙ e) }
     ]
 
-  module _ (s m : Folder) (rest : AtRest m) (has : Copies A old s m) where
+  -- what stands in the middle stood before, or was copied
+  stood_then : (files now : Files) → HasCopies A old files now → HoldsOnlyCopies A old files → HoldsOnlyCopies B old now → HoldsOnlyCopies (Either A B) old files
+  stood_then files now has before behind name (inl named) there = before name named there
+  stood_then files now has before behind name (inr named) there = elim (has.between name) [
+    | inr taken ↦ before name taken.0 there
+    | inl same ↦ sym same ∙ behind name named (subst IsSome (sym same) there)
+  ]
+
+  pub both_copied : (s m t : Folder) → Copies A old s m → Copies B old m t → Copies (Either A B) old s t
+  both_copied s m t first second = record {
+    has = copies_then s.disk.published m.disk.published first.has t.disk.published second.has;
+    stood = stood_then s.disk.published m.disk.published first.has first.stood second.stood;
+  }
+
+  module _ (s m : Folder) (rest : AtRest m) (copies : Copies A old s m) where
     from_middle : (image : Files) → IsImage m.disk image ⊎ Between B old m.disk.published image → IsImage s.disk image ⊎ Between (Either A B) old s.disk.published image
     from_middle image (inl was) =
         let is : image ≡ m.disk.published = rest_images m.disk.published image (subst (λ (d : Disk). IsImage d image) rest was) in
-        inr (subst (λ (f : Files). Between (Either A B) old s.disk.published f) (sym is) (between_wider A (Either A B) old s.disk.published m.disk.published left has.between))
-    from_middle image (inr between) = inr (both_between s.disk.published m.disk.published has image between)
+        inr (subst (λ (f : Files). Between (Either A B) old s.disk.published f) (sym is) (between_wider A (Either A B) old s.disk.published m.disk.published left copies.has.between))
+    from_middle image (inr between) = inr (both_between s.disk.published m.disk.published copies.has image between)
 
     pub passes_both : (t : Folder) → PassesCopies A old s m → PassesCopies B old m t → PassesCopies (Either A B) old s t
     passes_both t first second =

@@ -14,8 +14,8 @@ use Rattle.run_shelf.specs.Outcomes.{KeepFails}
 use Rattle.run_shelf.specs.declared.faults.ShelfCall.{ShelfCall}
 use Rattle.run_shelf.specs.declared.faults.ShelfCall.TheVariants as call
 use Rattle.run_shelf.proofs.Joining.{goes_with, stays_some, some_after}
-use Rattle.run_shelf.proofs.RunLemmas.{put_here}
-use Rattle.old_copies.specs.Copying.{folder_in, IsName, Between, HasCopies, HoldsOther, StepFails, PassesCopies, ReadsCopies, Copies, GoesBy, CopyStep, Places, folder_failed, site_failed, ReadsThese, PassesThese}
+use Rattle.run_shelf.proofs.RunLemmas.{put_here, none_is_not_some}
+use Rattle.old_copies.specs.Copying.{folder_in, IsName, Between, HasCopies, HoldsOnlyCopies, HoldsOther, StepFails, PassesCopies, ReadsCopies, Copies, GoesBy, CopyStep, Places, folder_failed, site_failed, ReadsThese, PassesThese}
 use Rattle.old_copies.specs.Looking.{IsOfFolder, IsOfSite}
 use Rattle.old_copies.specs.declared.faults.OldCopyFault.{OldCopyFault}
 use Rattle.old_copies.specs.declared.faults.OldCopyFault.TheVariants.{Here, OldHere, StrangeHere, NoStore, NotOld, UnknownFormat, BadCount, OtherFiles, Site, Shelf, NoMemory}
@@ -154,8 +154,11 @@ module _ (name from : List ℕ) (x y : Places) (there here : Option (List ℕ)) 
 
   has_same : here ≡ there → (old : Files) → old name ≡ there → (s t : Folder) → (here ≡ s.disk.published name) × Stays s t → Copies (IsName name) old s t
   has_same equal old is s t known = record {
-    each = λ other named. ap t.disk.published named ∙ ap (λ (f : Folder). f.disk.published name) known.1 ∙ sym known.0 ∙ equal ∙ sym is ∙ sym (ap old named);
-    between = λ other. inl (ap (λ (f : Folder). f.disk.published other) known.1);
+    has = record {
+      each = λ other named. ap t.disk.published named ∙ ap (λ (f : Folder). f.disk.published name) known.1 ∙ sym known.0 ∙ equal ∙ sym is ∙ sym (ap old named);
+      between = λ other. inl (ap (λ (f : Folder). f.disk.published other) known.1);
+    };
+    stood = λ other named there. ap s.disk.published named ∙ sym known.0 ∙ equal ∙ sym is ∙ sym (ap old named);
   }
 
   -- they are the same
@@ -197,7 +200,7 @@ module _ (name from : List ℕ) (x y : Places) (there here : Option (List ℕ)) 
   }
 
   -- there was none here, and it is put
-  module _ (z : Places) (bytes : List ℕ) (is_new : there ≡ Some bytes) (site_still : z.site ≡ y.site) where
+  module _ (z : Places) (bytes : List ℕ) (is_new : there ≡ Some bytes) (is_free : here ≡ None) (site_still : z.site ≡ y.site) where
     put_between : (old files : Files) → old name ≡ there → Between (IsName name) old files (put files name bytes)
     put_between old files is other = elim (cases_Bool (bytes_eq other name)) [
       | inl hits ↦
@@ -209,11 +212,18 @@ module _ (name from : List ℕ) (x y : Places) (there here : Option (List ℕ)) 
     put_each : (old files : Files) → old name ≡ there → (other : List ℕ) → IsName name other → put files name bytes other ≡ old other
     put_each old files is other named = put_here files name bytes other named ∙ sym is_new ∙ sym is ∙ sym (ap old named)
 
-    put_copies : (old : Files) → old name ≡ there → (s t : Folder) → KeepsFile name bytes s t → Copies (IsName name) old s t
-    put_copies old is s t kept =
+    -- none stood here
+    none_stood : (old files : Files) → here ≡ files name → HoldsOnlyCopies (IsName name) old files
+    none_stood old files known other named some = absurd (none_is_not_some (files other) (ap files named ∙ sym known ∙ is_free) some)
+
+    put_copies : (old : Files) → old name ≡ there → (s t : Folder) → (here ≡ s.disk.published name) × KeepsFile name bytes s t → Copies (IsName name) old s t
+    put_copies old is s t (known, kept) =
         let published : t.disk.published ≡ put s.disk.published name bytes = ap (λ (d : Disk). d.published) kept in
-        subst (λ (f : Files). HasCopies (IsName name) old s.disk.published f) (sym published)
-        (record { each = put_each old s.disk.published is; between = put_between old s.disk.published is })
+        record {
+          has = subst (λ (f : Files). HasCopies (IsName name) old s.disk.published f) (sym published)
+              (record { each = put_each old s.disk.published is; between = put_between old s.disk.published is });
+          stood = none_stood old s.disk.published known;
+        }
 
     put_passes : (old : Files) → old name ≡ there → (s t : Folder) → PassesFile name bytes s t → PassesCopies (IsName name) old s t
     put_passes old is s t passes = passes_weaker (λ image. IsImage s.disk image ⊎ (image ≡ put s.disk.published name bytes)) (λ image. IsImage s.disk image ⊎ Between (IsName name) old s.disk.published image) more s t passes
@@ -251,7 +261,7 @@ module _ (name from : List ℕ) (x y : Places) (there here : Option (List ℕ)) 
     put_now value kept passes quiet = record {
       same = later_told;
       rest = some_after y.folder.told z.folder.told (KeepsFile name bytes) AtRest kept rests_then;
-      copied = by_known from x.site.told (λ old. old name ≡ there) x.folder.told z.folder.told (Copies (IsName name)) read_there (λ old is. goes_weaker x.folder.told z.folder.told (KeepsFile name bytes) (Copies (IsName name) old) (from_first (KeepsFile name bytes) kept) (put_copies old is));
+      copied = by_known from x.site.told (λ old. old name ≡ there) x.folder.told z.folder.told (Copies (IsName name)) read_there (λ old is. goes_weaker x.folder.told z.folder.told (λ s t. (here ≡ s.disk.published name) × KeepsFile name bytes s t) (Copies (IsName name) old) (goes_with x.folder.told z.folder.told (λ s. here ≡ s.disk.published name) (KeepsFile name bytes) read_here (from_first (KeepsFile name bytes) kept)) (put_copies old is));
       refused = tt;
       reads = put_seen (goes_weaker y.folder.told z.folder.told (KeepsFile name bytes) (λ s t. (t.disk.published ≡ s.disk.published) ⊎ (t.disk.published ≡ put s.disk.published name bytes)) kept (λ s t is. inr (ap (λ (d : Disk). d.published) is)));
       any_moment = put_moments passes;

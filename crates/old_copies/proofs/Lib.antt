@@ -4,5 +4,8 @@ pub mod OtherLemmas
 pub mod StepLemmas
 pub mod FileLemmas
 pub mod KeptLemmas
+pub mod TextLemmas
+pub mod FormatLemmas
+pub mod ExactCopy
 pub mod NameLemmas
 pub mod WholeLemmas

@@ -34,7 +34,7 @@ holds_none count (Some s) names lists all = λ name text some. All-contains (IsC
 
 pub holds_other : (count : ℕ) (a : Option Folder) (names : List (List ℕ)) → ListsNames a names → HasOtherIn count names → IfSome a (λ s. HasOtherName count s.disk.published)
 holds_other count None names lists has = tt
-holds_other count (Some s) names lists has = record { name = has.name; there = ((lists.each has.name).0 has.listed).1; other = has.other }
+holds_other count (Some s) names lists has = record { name = has.name; short = ((lists.each has.name).0 has.listed).0; there = ((lists.each has.name).0 has.listed).1; other = has.other }
 
 -- ---- names, one after another
 

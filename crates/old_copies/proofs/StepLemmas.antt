@@ -8,7 +8,7 @@ use Rattle.run_shelf.specs.Images.{AtRest}
 use Rattle.old_copies.specs.Copying.{folder_in, Either, HasCopies, Places, StepFails, PassesCopies, ReadsCopies, Copies, GoesBy, CopyStep, folder_failed, site_failed, ReadsThese, PassesThese}
 use Rattle.old_copies.specs.declared.faults.OldCopyFault.{OldCopyFault}
 use Rattle.old_copies.specs.declared.faults.OldCopyFault.TheVariants.{Here, OldHere, StrangeHere, NoStore, NotOld, UnknownFormat, BadCount, OtherFiles, Site, Shelf, NoMemory}
-use Rattle.old_copies.proofs.BetweenLemmas.{between_wider, both_between, copies_wider, passes_wider, other_wider, copies_then, other_back, passes_both}
+use Rattle.old_copies.proofs.BetweenLemmas.{between_wider, both_between, copies_wider, passes_wider, other_wider, both_copied, other_back, passes_both}
 use Rattle.old_copies.proofs.OtherLemmas.{only_then, reads_wider, these_wider, these_then}
 
 -- ---- what is told
@@ -122,7 +122,7 @@ pub done_same : {T U : Type 0} (A B : List ℕ → Type 0) (from : List ℕ) (x 
 done_same A B from x y value other wider back step = record {
   same = step.same;
   rest = step.rest;
-  copied = by_weaker from x.site.told x.folder.told y.folder.told (Copies A) (Copies B) step.copied (λ old s t. copies_wider A B old s.disk.published t.disk.published wider back);
+  copied = by_weaker from x.site.told x.folder.told y.folder.told (Copies A) (Copies B) step.copied (λ old s t. copies_wider A B old s t wider back);
   refused = tt;
   reads = by_weaker from x.site.told x.folder.told y.folder.told (ReadsCopies A) (ReadsCopies B) step.reads (λ old s t. between_wider A B old s.disk.published t.disk.published wider);
   any_moment = by_weaker from x.site.told x.folder.told y.folder.told (PassesCopies A) (PassesCopies B) step.any_moment (λ old. passes_wider A B old wider);
@@ -145,7 +145,7 @@ module _ {T : Type 0} (A B : List ℕ → Type 0) (from : List ℕ) (x y z : Pla
       pair_by (Some files) one two = goes_both x.folder.told y.folder.told (Copies A (folder_in from files)) (PassesCopies A (folder_in from files)) one two
 
   reads_then : {U : Type 0} (result : Result U OldCopyFault) → CopyStep B from y z result → GoesBy from x z (ReadsCopies (Either A B))
-  reads_then result second = by_then from x.site.told y.site.told x.folder.told y.folder.told z.folder.told first.same first.rest (Copies A) (ReadsCopies B) (ReadsCopies (Either A B)) first.copied second.reads (λ old s m t rest p q. both_between A B old s.disk.published m.disk.published p t.disk.published q)
+  reads_then result second = by_then from x.site.told y.site.told x.folder.told y.folder.told z.folder.told first.same first.rest (Copies A) (ReadsCopies B) (ReadsCopies (Either A B)) first.copied second.reads (λ old s m t rest p q. both_between A B old s.disk.published m.disk.published p.has t.disk.published q)
 
   others : {U : Type 0} (result : Result U OldCopyFault) → CopyStep B from y z result → Goes x.folder.told z.folder.told (PassesThese (Either A B))
   others result second =
@@ -158,7 +158,7 @@ module _ {T : Type 0} (A B : List ℕ → Type 0) (from : List ℕ) (x y z : Pla
   step_then (Ok done) second = record {
     same = second.same ∙ first.same;
     rest = second.rest;
-    copied = by_then from x.site.told y.site.told x.folder.told y.folder.told z.folder.told first.same first.rest (Copies A) (Copies B) (Copies (Either A B)) first.copied second.copied (λ old s m t rest p q. copies_then A B old s.disk.published m.disk.published p t.disk.published q);
+    copied = by_then from x.site.told y.site.told x.folder.told y.folder.told z.folder.told first.same first.rest (Copies A) (Copies B) (Copies (Either A B)) first.copied second.copied (λ old s m t rest p q. both_copied A B old s m t p q);
     refused = tt;
     reads = reads_then (Ok done) second;
     any_moment = moments (Ok done) second;
@@ -171,7 +171,7 @@ module _ {T : Type 0} (A B : List ℕ → Type 0) (from : List ℕ) (x y z : Pla
     same = second.same ∙ first.same;
     rest = tt;
     copied = tt;
-    refused = by_then from x.site.told y.site.told x.folder.told y.folder.told z.folder.told first.same first.rest (Copies A) (λ old s t. StepFails B old s.disk.published fault) (λ old s t. StepFails (Either A B) old s.disk.published fault) first.copied second.refused (λ old s m t rest p q. fails_back A B old s.disk.published m.disk.published p fault q);
+    refused = by_then from x.site.told y.site.told x.folder.told y.folder.told z.folder.told first.same first.rest (Copies A) (λ old s t. StepFails B old s.disk.published fault) (λ old s t. StepFails (Either A B) old s.disk.published fault) first.copied second.refused (λ old s m t rest p q. fails_back A B old s.disk.published m.disk.published p.has fault q);
     reads = reads_then (Err fault) second;
     any_moment = moments (Err fault) second;
     reads_these = tt;

@@ -1,5 +1,5 @@
 -- All files, one after another.
-use Rattle.std.proofs.Common.{◌≡◌, ◌⊎◌, inl, inr, ℕ, ◌+◌, ◌<◌, false, Option, Some, None, List, IfSome, IsSome, Result, Ok, Err, refl, sym, ap, ◌∙◌, subst, arith}
+use Rattle.std.proofs.Common.{◌≡◌, ◌⊎◌, inl, inr, ℕ, ◌+◌, ◌<◌, ◌≤◌, false, Option, Some, None, List, IfSome, IsSome, Result, Ok, Err, refl, sym, ap, ◌∙◌, subst, arith}
 use Rattle.std.proofs.lemmas.Bool.{cases_eq, cases_lt}
 use Rattle.edge_io.specs.Causes.{RisesExactlyIf}
 use Rattle.edge_io.specs.Disk.{Files, Disk, Folder, IsImage, at_rest}
@@ -12,14 +12,15 @@ use Rattle.run_shelf.specs.declared.faults.ShelfCall.{ShelfCall}
 use Rattle.run_shelf.specs.declared.faults.ShelfCall.TheVariants as call
 use Rattle.run_shelf.specs.Images.{AtRest, PassesOld}
 use Rattle.run_shelf.specs.Outcomes.{FailsAt}
-use Rattle.run_shelf.specs.Repository.{full_name, format_name}
+use Rattle.run_shelf.specs.Repository.{full_name, format_name, most_runs}
 use Rattle.run_shelf.proofs.Joining.{rest_images, goes_beside, goes_after, goes_with, settled_stays, some_after}
-use Rattle.old_copies.specs.Copying.{folder_in, IsName, Either, IsRunBelow, IsCopiedFirst, IsCopied, Between, HasCopies, HoldsOther, Places, places, folder_failed, site_failed, StepFails, PassesCopies, ReadsCopies, Copies, CopyStep, IsBeingCopied, PassesWay, ReadsWay, CopiesAll, IsOldFolder, PassesTaking, TakesFiles, HasOtherFiles, SameReads, CopyFails, CopiesOld, OnlyThese, ReadsThese, PassesThese}
+use Rattle.old_copies.specs.Copying.{folder_in, IsName, Either, IsRunBelow, IsCopiedFirst, IsCopied, Between, HasCopies, HoldsOnlyCopies, HoldsOther, Places, places, folder_failed, site_failed, StepFails, PassesCopies, ReadsCopies, Copies, CopyStep, IsBeingCopied, PassesWay, ReadsWay, CopiesAll, IsOldFolder, PassesTaking, TakesFiles, HasOtherFiles, SameReads, CopyFails, CopiesOld, OnlyThese, ReadsThese, PassesThese}
 use Rattle.old_copies.specs.Looking.{IsFree, HereFails, HoldsNoOther, CopyNamesFail, CopyLookFails}
 use Rattle.old_copies.specs.declared.faults.OldCopyFault.{OldCopyFault}
 use Rattle.old_copies.specs.declared.faults.OldCopyFault.TheVariants as fault
 use Rattle.old_copies.proofs.BetweenLemmas.{between_self, both_between}
 use Rattle.old_copies.proofs.FileLemmas.{rests, told_or_not, by_known}
+use Rattle.old_copies.proofs.TextLemmas.{copied_is_text}
 use Rattle.old_copies.proofs.StepLemmas.{goes_both, goes_to, by_weaker, by_then, counts_then, failed_wider, done_same, step_then}
 
 -- ---- the runs
@@ -50,7 +51,7 @@ pub no_runs : {T : Type 0} (from : List ℕ) (x : Places) (value : T) → IfSome
 no_runs from x value rest = record {
   same = refl;
   rest = rest;
-  copied = told_or_not from x.site.told x.folder.told x.folder.told (Copies (IsRunBelow 0)) (λ old. still (Copies (IsRunBelow 0) old) x.folder.told (λ s. record { each = λ name below. absurd (omega (arith, below.1)); between = between_self (IsRunBelow 0) old s.disk.published }));
+  copied = told_or_not from x.site.told x.folder.told x.folder.told (Copies (IsRunBelow 0)) (λ old. still (Copies (IsRunBelow 0) old) x.folder.told (λ s. record { has = record { each = λ name below. absurd (omega (arith, below.1)); between = between_self (IsRunBelow 0) old s.disk.published }; stood = λ name below. absurd (omega (arith, below.1)) }));
   refused = tt;
   reads = told_or_not from x.site.told x.folder.told x.folder.told (ReadsCopies (IsRunBelow 0)) (λ old. still (ReadsCopies (IsRunBelow 0) old) x.folder.told (λ s. between_self (IsRunBelow 0) old s.disk.published));
   any_moment = told_or_not from x.site.told x.folder.told x.folder.told (PassesCopies (IsRunBelow 0)) (λ old. still (PassesCopies (IsRunBelow 0) old) x.folder.told (λ s. passes_same (λ image. IsImage s.disk image ⊎ Between (IsRunBelow 0) old s.disk.published image) s s refl refl));
@@ -85,7 +86,7 @@ module _ (count : ℕ) (old : Files) where
       more image (inl was) = inl was
       more image (inr between) = inr (inl between)
 
-  module _ (s m : Folder) (rest : AtRest m) (has : Copies (IsCopiedFirst count) old s m) where
+  module _ (s m : Folder) (rest : AtRest m) (has : HasCopies (IsCopiedFirst count) old s.disk.published m.disk.published) where
     -- without `format` it is as before that
     without : (image : Files) → Between (IsName format_name) old m.disk.published image → image format_name ≡ m.disk.published format_name → Between (IsCopiedFirst count) old s.disk.published image
     without image between same name = from_old (has.between name)
@@ -142,10 +143,10 @@ pub all_then : {T U : Type 0} (count : ℕ) (from : List ℕ) (x y z : Places) (
 all_then count from x y z value result first second = record {
   step = step_then (IsCopiedFirst count) (IsName format_name) from x y z value first result second;
   reads = by_then from x.site.told y.site.told x.folder.told y.folder.told z.folder.told first.same first.rest (Copies (IsCopiedFirst count)) (ReadsCopies (IsName format_name)) (ReadsWay count) first.copied second.reads
-      (λ old s m t rest p q. last_between count old s m rest p t.disk.published q);
+      (λ old s m t rest p q. last_between count old s m rest p.has t.disk.published q);
   way = by_then from x.site.told y.site.told x.folder.told y.folder.told z.folder.told first.same first.rest (λ old s m. Copies (IsCopiedFirst count) old s m × PassesCopies (IsCopiedFirst count) old s m) (PassesCopies (IsName format_name)) (PassesWay count)
       (pair_by x.site.told first.copied first.any_moment) second.any_moment
-      (λ old s m t rest p q. way_then count old s m rest p.0 t p.1 q);
+      (λ old s m t rest p q. way_then count old s m rest p.0.has t p.1 q);
 }
   where
     pair_by : (w : Option Files) → IfSome w (λ files. Goes x.folder.told y.folder.told (Copies (IsCopiedFirst count) (folder_in from files))) → IfSome w (λ files. Goes x.folder.told y.folder.told (PassesCopies (IsCopiedFirst count) (folder_in from files))) → IfSome w (λ files. Goes x.folder.told y.folder.told (λ s m. Copies (IsCopiedFirst count) (folder_in from files) s m × PassesCopies (IsCopiedFirst count) (folder_in from files) s m))
@@ -242,6 +243,7 @@ module _ (old : Files) (s t : Folder) (free : IsFree s t) where
       count = count;
       is_old = is_old;
       name = fails.name;
+      short = fails.short;
       there = subst IsSome (ap (λ (f : Folder). f.disk.published fails.name) free.settled) fails.there;
       other = λ first. absurd (fails.other first);
     },
@@ -258,21 +260,21 @@ module _ (old : Files) (s t : Folder) (free : IsFree s t) where
   names_fail count is_old fault.BadCount fails = absurd fails
   names_fail count is_old fault.Site fails = absurd fails
 
-other_files : (count : ℕ) (old files : Files) → IsOldFolder count old → files format_name ≡ None → HoldsOther (IsCopied count) old files → HasOtherFiles old files
-other_files count old files is_old none holds = record { count = count; is_old = is_old; name = holds.name; there = holds.there; other = λ first. holds.other }
+other_files : (count : ℕ) (old files : Files) → count ≤ most_runs → IsOldFolder count old → files format_name ≡ None → HoldsOther (IsCopied count) old files → HasOtherFiles old files
+other_files count old files few is_old none holds = record { count = count; is_old = is_old; name = holds.name; short = copied_is_text count holds.name few holds.named; there = holds.there; other = λ first. holds.other }
 
-step_fails : (count : ℕ) (old : Files) (s t : Folder) → IsOldFolder count old → s.disk.published format_name ≡ None → ReadsWay count old s t → (bad : OldCopyFault) → StepFails (IsCopied count) old s.disk.published bad → CopyFails old bad s t
-step_fails count old s t is_old none way fault.OtherFiles fails = (none, other_files count old s.disk.published is_old none fails, inr (count, is_old, way))
-step_fails count old s t is_old none way fault.Site fails = (none, inr (count, is_old, way))
-step_fails count old s t is_old none way (fault.Shelf which) fails = inr (count, is_old, way)
-step_fails count old s t is_old none way fault.NoMemory fails = inr (count, is_old, way)
-step_fails count old s t is_old none way fault.Here fails = absurd fails
-step_fails count old s t is_old none way fault.OldHere fails = absurd fails
-step_fails count old s t is_old none way fault.StrangeHere fails = absurd fails
-step_fails count old s t is_old none way fault.NoStore fails = absurd fails
-step_fails count old s t is_old none way fault.NotOld fails = absurd fails
-step_fails count old s t is_old none way fault.UnknownFormat fails = absurd fails
-step_fails count old s t is_old none way fault.BadCount fails = absurd fails
+step_fails : (count : ℕ) (old : Files) (s t : Folder) → count ≤ most_runs → IsOldFolder count old → s.disk.published format_name ≡ None → ReadsWay count old s t → (bad : OldCopyFault) → StepFails (IsCopied count) old s.disk.published bad → CopyFails old bad s t
+step_fails count old s t few is_old none way fault.OtherFiles fails = (none, other_files count old s.disk.published few is_old none fails, inr (count, is_old, way))
+step_fails count old s t few is_old none way fault.Site fails = (none, inr (count, is_old, way))
+step_fails count old s t few is_old none way (fault.Shelf which) fails = inr (count, is_old, way)
+step_fails count old s t few is_old none way fault.NoMemory fails = inr (count, is_old, way)
+step_fails count old s t few is_old none way fault.Here fails = absurd fails
+step_fails count old s t few is_old none way fault.OldHere fails = absurd fails
+step_fails count old s t few is_old none way fault.StrangeHere fails = absurd fails
+step_fails count old s t few is_old none way fault.NoStore fails = absurd fails
+step_fails count old s t few is_old none way fault.NotOld fails = absurd fails
+step_fails count old s t few is_old none way fault.UnknownFormat fails = absurd fails
+step_fails count old s t few is_old none way fault.BadCount fails = absurd fails
 
 -- ---- the whole
 
@@ -351,12 +353,15 @@ module _ (from : List ℕ) (f g : Seen Folder) (w v : Seen Files) (counts : IfSo
           free = p.none;
           alone = λ name text some. none name text (subst IsSome (sym (ap (λ (files : Files). files name) published)) some);
           rest = rest;
-          copied = subst (λ (files : Files). HasCopies (IsCopied count) old files t.disk.published) published copied;
+          copied = record {
+            has = subst (λ (files : Files). HasCopies (IsCopied count) old files t.disk.published) published copied.has;
+            stood = subst (HoldsOnlyCopies (IsCopied count) old) published copied.stood;
+          };
         }
 
-        fails_files : (bad : OldCopyFault) → StepFails (IsCopied count) old m.disk.published bad → ReadsWay count old m t → CopyFails old bad s t
-        fails_files bad fails way =
-            step_fails count old s t is p.none (subst (λ (files : Files). IsBeingCopied count old files t.disk.published) published way) bad (subst (λ (files : Files). StepFails (IsCopied count) old files bad) published fails)
+        fails_files : count ≤ most_runs → (bad : OldCopyFault) → StepFails (IsCopied count) old m.disk.published bad → ReadsWay count old m t → CopyFails old bad s t
+        fails_files few bad fails way =
+            step_fails count old s t few is p.none (subst (λ (files : Files). IsBeingCopied count old files t.disk.published) published way) bad (subst (λ (files : Files). StepFails (IsCopied count) old files bad) published fails)
 
       alone_all : IfSome h.told (HoldsNoOther count)
       alone_all = stays_some_of g.told h.told alone stays
@@ -382,8 +387,8 @@ module _ (from : List ℕ) (f g : Seen Folder) (w v : Seen Files) (counts : IfSo
               (goes_from h.told i.told (HoldsNoOther count) (λ m t. AtRest t × Copies (IsCopied count) old m t) (λ m t. (HoldsNoOther count m × AtRest t) × Copies (IsCopied count) old m t) alone_all (goes_to h.told i.told (Copies (IsCopied count) old) AtRest all.step.rest copied) (λ m t here both. ((here, both.0), both.1)))
               (λ s m t p q. takes_files s m t old is p q.0.0 q.0.1 q.1)
 
-      pub stops_all : (bad : OldCopyFault) → CopiesAll {T = Unit {0}} count from (places h v) (places i u) (Err bad) → CopiesOld from (places f w) (places i u) (Err bad)
-      stops_all bad all = record {
+      pub stops_all : count ≤ most_runs → (bad : OldCopyFault) → CopiesAll {T = Unit {0}} count from (places h v) (places i u) (Err bad) → CopiesOld from (places f w) (places i u) (Err bad)
+      stops_all few bad all = record {
         same = all.step.same ∙ same;
         copied = tt;
         refused = by_refused w.told is_old (by_first (λ files. Goes h.told i.told (λ m t. StepFails (IsCopied count) (folder_in from files) m.disk.published bad)) all.step.refused) (by_first (λ files. Goes h.told i.told (ReadsWay count (folder_in from files))) all.reads);
@@ -397,4 +402,4 @@ module _ (from : List ℕ) (f g : Seen Folder) (w v : Seen Files) (counts : IfSo
           by_refused (Some files) is fails way =
               let old : Files = folder_in from files in
               let Fails : Folder → Folder → Type 0 = λ m t. StepFails (IsCopied count) old m.disk.published bad in
-              goes_then f.told h.told i.told IsFree (λ m t. Fails m t × ReadsWay count old m t) (CopyFails old bad) free_all (goes_both h.told i.told Fails (ReadsWay count old) fails way) (λ s m t p q. fails_files s m t old is p bad q.0 q.1)
+              goes_then f.told h.told i.told IsFree (λ m t. Fails m t × ReadsWay count old m t) (CopyFails old bad) free_all (goes_both h.told i.told Fails (ReadsWay count old) fails way) (λ s m t p q. fails_files s m t old is p few bad q.0 q.1)

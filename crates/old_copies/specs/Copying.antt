@@ -58,6 +58,10 @@ pub record HasCopies (Of : List ℕ → Type 0) (old files image : Files) : Type
   pub each : (name : List ℕ) → Of name → image name ≡ old name
   pub between : Between Of old files image
 
+-- each file of one of these names that stands here is the other folder's
+abbrev pub HoldsOnlyCopies : (Of : List ℕ → Type 0) → (old files : Files) → Type 0
+HoldsOnlyCopies Of old files = (name : List ℕ) → Of name → IsSome (files name) → files name ≡ old name
+
 -- a file of one of these names stands here, and is not the other folder's
 pub record HoldsOther (Of : List ℕ → Type 0) (old files : Files) : Type 0 where
   pub name : List ℕ
@@ -114,9 +118,10 @@ ReadsThese Of s t = OnlyThese Of s.disk.published t.disk.published
 abbrev pub PassesThese : (Of : List ℕ → Type 0) → Folder → Folder → Type 0
 PassesThese Of s t = Passes (λ image. IsImage s.disk image ⊎ OnlyThese Of s.disk.published image) s t
 
--- the copies are there
-abbrev pub Copies : (Of : List ℕ → Type 0) → (old : Files) → Folder → Folder → Type 0
-Copies Of old s t = HasCopies Of old s.disk.published t.disk.published
+-- the copies are there, and what stood here under their names before had the same bytes
+pub record Copies (Of : List ℕ → Type 0) (old : Files) (s t : Folder) : Type 0 where
+  pub has : HasCopies Of old s.disk.published t.disk.published
+  pub stood : HoldsOnlyCopies Of old s.disk.published
 
 -- where both are told, the folder here goes this step, by the files of the other folder
 abbrev pub GoesBy : (from : List ℕ) → (before after : Places) → (Files → Folder → Folder → Type 0) → Type 0
@@ -171,8 +176,8 @@ IsOnWay from (Some told) files image = (count : ℕ) × IsOldFolder count (folde
 abbrev pub PassesTaking : (from : List ℕ) → Option Files → Folder → Folder → Type 0
 PassesTaking from told s t = Passes (λ image. IsImage s.disk image ⊎ IsOnWay from told s.disk.published image) s t
 
--- The folder here was none of the two tools, and held no file but those of the other one. It is a folder of the original tool
--- now: its files are those of the other one, as many runs as that tells.
+-- The folder here was none of the two tools, and held no file but those of the other one, with the same bytes. It is a folder of
+-- the original tool now: its files are those of the other one, as many runs as that tells.
 pub record TakesFiles (old : Files) (s t : Folder) : Type 0 where
   pub count : ℕ
   pub is_old : IsOldFolder count old
@@ -181,11 +186,12 @@ pub record TakesFiles (old : Files) (s t : Folder) : Type 0 where
   pub rest : AtRest t
   pub copied : Copies (IsCopied count) old s t
 
--- a file stands here that is none of the other folder: its name is no copied one, or its bytes are others
+-- a file of a text's name stands here that is none of the other folder: its name is no copied one, or its bytes are others
 pub record HasOtherFiles (old files : Files) : Type 0 where
   pub count : ℕ
   pub is_old : IsOldFolder count old
   pub name : List ℕ
+  pub short : IsShortText name
   pub there : IsSome (files name)
   pub other : IsCopiedFirst count name → files name ≢ old name
 

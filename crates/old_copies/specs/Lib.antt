@@ -1,2 +1,3 @@
 pub mod Copying
+pub mod Exact
 pub mod Looking

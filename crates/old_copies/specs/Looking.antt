@@ -42,9 +42,10 @@ pub record HasOtherIn (count : ℕ) (names : List (List ℕ)) : Type 0 where
   pub listed : Contains names name
   pub other : IsCopiedFirst count name → ⊥
 
--- a file has another name
+-- a file of a text's name has another one
 pub record HasOtherName (count : ℕ) (files : Files) : Type 0 where
   pub name : List ℕ
+  pub short : IsShortText name
   pub there : IsSome (files name)
   pub other : IsCopiedFirst count name → ⊥
 

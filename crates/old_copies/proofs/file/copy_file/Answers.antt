@@ -33,12 +33,12 @@ returns-in-Ok-keep_file g c =
     let is_new : c.in-Ok.there ≡ Some c.bytes.result.now = c.in-New.ensures.0 ∙ ap Some (sym c.bytes.ensures) in
     put_now c.args.name.now c.args.from.now (places (g.H.Shelf.seen c.args.shelf.now) (g.F.Site.seen c.args.site.now)) (places (g.H.Shelf.seen c.read_here.new.shelf) (g.F.Site.seen c.read_source_file.new.site)) c.in-Ok.there c.in-Ok-read_here.here c.in-Ok.ensures.same c.in-Ok-read_here.ensures.same c.requires.rest
     c.in-Ok.ensures.found c.in-Ok-read_here.ensures.found c.in-Ok-read_here.ensures.cause c.in-Ok.ensures.cause
-    (places (g.H.Shelf.seen c.keep_file.new.shelf) (g.F.Site.seen c.read_source_file.new.site)) c.bytes.result.now is_new refl tt c.in-Ok-keep_file.ensures.kept c.keep_file.ensures.any_moment c.in-Ok-keep_file.ensures.cause.done
+    (places (g.H.Shelf.seen c.keep_file.new.shelf) (g.F.Site.seen c.read_source_file.new.site)) c.bytes.result.now is_new c.in-New.ensures.1 refl tt c.in-Ok-keep_file.ensures.kept c.keep_file.ensures.any_moment c.in-Ok-keep_file.ensures.cause.done
 
 pub returns-in-New : goal.returns-in-New
 returns-in-New g c =
     let is_new : c.in-Ok.there ≡ Some c.bytes.result.now = c.in-New.ensures.0 ∙ ap Some (sym c.bytes.ensures) in
     put_failed c.args.name.now c.args.from.now (places (g.H.Shelf.seen c.args.shelf.now) (g.F.Site.seen c.args.site.now)) (places (g.H.Shelf.seen c.read_here.new.shelf) (g.F.Site.seen c.read_source_file.new.site)) c.in-Ok.there c.in-Ok-read_here.here c.in-Ok.ensures.same c.in-Ok-read_here.ensures.same c.requires.rest
     c.in-Ok.ensures.found c.in-Ok-read_here.ensures.found c.in-Ok-read_here.ensures.cause c.in-Ok.ensures.cause
-    (places (g.H.Shelf.seen c.keep_file.new.shelf) (g.F.Site.seen c.read_source_file.new.site)) c.bytes.result.now is_new refl c.in-Err-keep_file.call c.in-Err-keep_file.ensures.failed c.keep_file.ensures.any_moment
+    (places (g.H.Shelf.seen c.keep_file.new.shelf) (g.F.Site.seen c.read_source_file.new.site)) c.bytes.result.now is_new c.in-New.ensures.1 refl c.in-Err-keep_file.call c.in-Err-keep_file.ensures.failed c.keep_file.ensures.any_moment
     (rises _ _ c.keep_file.result c.in-Err-keep_file.call c.in-Err-keep_file.is c.keep_file.ensures.cause)

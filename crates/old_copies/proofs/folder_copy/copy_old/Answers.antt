@@ -38,4 +38,4 @@ returns g c = by c.copy_all.result c.copy_all.ensures
     by (Err bad) all =
         stops_all c.args.from.now (g.H.Shelf.seen c.args.shelf.now) (g.H.Shelf.seen c.check_no_format.new.shelf) (g.F.Site.seen c.args.site.now) (g.F.Site.seen c.count_runs_at.new.site) (g.met.H.Shelf.published_counts c.args.shelf.now) c.in-Ok.ensures.free c.count_runs_at.ensures.same
         (g.H.Shelf.seen c.check_names.new.shelf) c.in-Ok-count_runs_at.count c.in-Ok-count_runs_at.ensures.found c.check_names.ensures.same (g.H.Shelf.seen c.copy_all.new.shelf) (g.F.Site.seen c.copy_all.new.site)
-        c.in-Ok-check_names.ensures.alone (counts_then _ _ _ _ c.in-Ok.ensures.cause c.in-Ok-check_names.ensures.cause) c.in-Ok-count_runs_at.ensures.cause bad all
+        c.in-Ok-check_names.ensures.alone (counts_then _ _ _ _ c.in-Ok.ensures.cause c.in-Ok-check_names.ensures.cause) c.in-Ok-count_runs_at.ensures.cause c.in-Ok-count_runs_at.ensures.few bad all
