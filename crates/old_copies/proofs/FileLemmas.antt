@@ -15,11 +15,10 @@ use Rattle.run_shelf.specs.declared.faults.ShelfCall.{ShelfCall}
 use Rattle.run_shelf.specs.declared.faults.ShelfCall.TheVariants as call
 use Rattle.run_shelf.proofs.Joining.{goes_with, stays_some, some_after}
 use Rattle.run_shelf.proofs.RunLemmas.{put_here, none_is_not_some}
-use Rattle.old_copies.specs.Copying.{folder_in, IsName, Between, HasCopies, HoldsOnlyCopies, HoldsOther, StepFails, PassesCopies, ReadsCopies, Copies, GoesBy, CopyStep, Places, folder_failed, site_failed, ReadsThese, PassesThese}
+use Rattle.old_copies.specs.Copying.{folder_in, IsName, Between, HasCopies, HoldsOnlyCopies, HoldsOther, StepFails, PassesCopies, ReadsCopies, Copies, CopyStep, Places, told_in, folder_failed, site_failed}
 use Rattle.old_copies.specs.Looking.{IsOfFolder, IsOfSite}
 use Rattle.old_copies.specs.declared.faults.OldCopyFault.{OldCopyFault}
 use Rattle.old_copies.specs.declared.faults.OldCopyFault.TheVariants.{Here, OldHere, StrangeHere, NoStore, NotOld, UnknownFormat, BadCount, OtherFiles, Site, Shelf, NoMemory}
-use Rattle.old_copies.proofs.OtherLemmas.{still_only, still_these, put_among, put_these}
 
 -- ---- counts
 
@@ -115,20 +114,30 @@ pub by_known : (from : List ℕ) (w : Option Files) (P : Files → Type 0) (a b 
 by_known from None P a b Q known each = tt
 by_known from (Some files) P a b Q known each = each (folder_in from files) known
 
-still_passes : (Of : List ℕ → Type 0) (old : Files) (s t : Folder) → Stays s t → PassesCopies Of old s t
-still_passes Of old s t same = passes_same (λ image. IsImage s.disk image ⊎ Between Of old s.disk.published image) s t (ap (λ (f : Folder). f.disk) same) (ap (λ (f : Folder). f.past) same)
+-- what is known of the other folder's files, where they are told
+pub in_told : (from : List ℕ) (w : Option Files) (P : Files → Type 0) → IfSome w (λ files. P (folder_in from files)) → IfSome (told_in from w) P
+in_told from None P known = tt
+in_told from (Some files) P known = known
 
-still_reads : (Of : List ℕ → Type 0) (old : Files) (s t : Folder) → Stays s t → ReadsCopies Of old s t
-still_reads Of old s t same other = inl (ap (λ (f : Folder). f.disk.published other) same)
+-- a step that goes by what is told of the other folder, where that is told
+pub as_told : (from : List ℕ) (w : Option Files) (a b : Option Folder) (R : Option Files → Folder → Folder → Type 0) → Goes a b (R (told_in from w)) → IfSome w (λ files. Goes a b (R (Some (folder_in from files))))
+as_told from None a b R step = tt
+as_told from (Some files) a b R step = step
+
+still_passes : (Of : List ℕ → Type 0) (told : Option Files) (s t : Folder) → Stays s t → PassesCopies Of told s t
+still_passes Of told s t same = passes_same (λ image. IsImage s.disk image ⊎ Between Of told s.disk.published image) s t (ap (λ (f : Folder). f.disk) same) (ap (λ (f : Folder). f.past) same)
+
+still_reads : (Of : List ℕ → Type 0) (told : Option Files) (s t : Folder) → Stays s t → ReadsCopies Of told s t
+still_reads Of told s t same other = inl (ap (λ (f : Folder). f.disk.published other) same)
 
 -- ---- nothing was put
 
 module _ (Of : List ℕ → Type 0) (from : List ℕ) (x y : Places) (same : y.site.told ≡ x.site.told) (stays : Goes x.folder.told y.folder.told Stays) where
-  still_moments : GoesBy from x y (PassesCopies Of)
-  still_moments = told_or_not from x.site.told x.folder.told y.folder.told (PassesCopies Of) (λ old. goes_weaker x.folder.told y.folder.told Stays (PassesCopies Of old) stays (still_passes Of old))
+  still_moments : Goes x.folder.told y.folder.told (PassesCopies Of (told_in from x.site.told))
+  still_moments = goes_weaker x.folder.told y.folder.told Stays (PassesCopies Of (told_in from x.site.told)) stays (still_passes Of (told_in from x.site.told))
 
-  still_seen : GoesBy from x y (ReadsCopies Of)
-  still_seen = told_or_not from x.site.told x.folder.told y.folder.told (ReadsCopies Of) (λ old. goes_weaker x.folder.told y.folder.told Stays (ReadsCopies Of old) stays (still_reads Of old))
+  still_seen : Goes x.folder.told y.folder.told (ReadsCopies Of (told_in from x.site.told))
+  still_seen = goes_weaker x.folder.told y.folder.told Stays (ReadsCopies Of (told_in from x.site.told)) stays (still_reads Of (told_in from x.site.told))
 
   pub not_put : {T : Type 0} (fault : OldCopyFault) → ((old files : Files) → StepFails Of old files fault) → RisesExactlyIf x.folder.faults y.folder.faults (folder_failed {T = T} (Err fault)) → RisesExactlyIf x.site.faults y.site.faults (site_failed {T = T} (Err fault)) → CopyStep {T = T} Of from x y (Err fault)
   not_put fault fails folder site = record {
@@ -138,8 +147,6 @@ module _ (Of : List ℕ → Type 0) (from : List ℕ) (x y : Places) (same : y.s
     refused = told_or_not from x.site.told x.folder.told y.folder.told (λ old s t. StepFails Of old s.disk.published fault) (λ old. goes_weaker x.folder.told y.folder.told Stays (λ s t. StepFails Of old s.disk.published fault) stays (λ s t is. fails old s.disk.published));
     reads = still_seen;
     any_moment = still_moments;
-    reads_these = tt;
-    passes_these = goes_weaker x.folder.told y.folder.told Stays (PassesThese Of) stays (still_these Of);
     folder = folder;
     site = site;
   }
@@ -170,8 +177,6 @@ module _ (name from : List ℕ) (x y : Places) (there here : Option (List ℕ)) 
     refused = tt;
     reads = still_seen (IsName name) from x y same stays;
     any_moment = still_moments (IsName name) from x y same stays;
-    reads_these = goes_weaker x.folder.told y.folder.told Stays (ReadsThese (IsName name)) stays (still_only (IsName name));
-    passes_these = goes_weaker x.folder.told y.folder.told Stays (PassesThese (IsName name)) stays (still_these (IsName name));
     folder = folder;
     site = site;
   }
@@ -193,24 +198,26 @@ module _ (name from : List ℕ) (x y : Places) (there here : Option (List ℕ)) 
     refused = by_known from x.site.told (λ old. old name ≡ there) x.folder.told y.folder.told (λ old s t. StepFails (IsName name) old s.disk.published OtherFiles) read_there (λ old is. goes_weaker x.folder.told y.folder.told (λ s t. (here ≡ s.disk.published name) × Stays s t) (λ s t. StepFails (IsName name) old s.disk.published OtherFiles) known_here (holds_other some differs old is));
     reads = still_seen (IsName name) from x y same stays;
     any_moment = still_moments (IsName name) from x y same stays;
-    reads_these = tt;
-    passes_these = goes_weaker x.folder.told y.folder.told Stays (PassesThese (IsName name)) stays (still_these (IsName name));
     folder = folder;
     site = site;
   }
 
   -- there was none here, and it is put
   module _ (z : Places) (bytes : List ℕ) (is_new : there ≡ Some bytes) (is_free : here ≡ None) (site_still : z.site ≡ y.site) where
-    put_between : (old files : Files) → old name ≡ there → Between (IsName name) old files (put files name bytes)
-    put_between old files is other = elim (cases_Bool (bytes_eq other name)) [
-      | inl hits ↦
-          let named : other ≡ name = (bytes_eq-Decides other name).0 hits in
-          inr (named, put_here files name bytes other named ∙ sym is_new ∙ sym is ∙ sym (ap old named))
-      | inr misses ↦ inl (cond-false (bytes_eq other name) (Some bytes) (files other) misses)
-    ]
-
     put_each : (old files : Files) → old name ≡ there → (other : List ℕ) → IsName name other → put files name bytes other ≡ old other
     put_each old files is other named = put_here files name bytes other named ∙ sym is_new ∙ sym is ∙ sym (ap old named)
+
+    put_told : (told : Option Files) (files : Files) → IfSome told (λ old. old name ≡ there) → (other : List ℕ) → IsName name other → IfSome told (λ old. put files name bytes other ≡ old other)
+    put_told None files is other named = tt
+    put_told (Some old) files is other named = put_each old files is other named
+
+    put_between : (told : Option Files) (files : Files) → IfSome told (λ old. old name ≡ there) → Between (IsName name) told files (put files name bytes)
+    put_between told files is other = elim (cases_Bool (bytes_eq other name)) [
+      | inl hits ↦
+          let named : other ≡ name = (bytes_eq-Decides other name).0 hits in
+          inr (named, put_told told files is other named)
+      | inr misses ↦ inl (cond-false (bytes_eq other name) (Some bytes) (files other) misses)
+    ]
 
     -- none stood here
     none_stood : (old files : Files) → here ≡ files name → HoldsOnlyCopies (IsName name) old files
@@ -221,32 +228,38 @@ module _ (name from : List ℕ) (x y : Places) (there here : Option (List ℕ)) 
         let published : t.disk.published ≡ put s.disk.published name bytes = ap (λ (d : Disk). d.published) kept in
         record {
           has = subst (λ (f : Files). HasCopies (IsName name) old s.disk.published f) (sym published)
-              (record { each = put_each old s.disk.published is; between = put_between old s.disk.published is });
+              (record { each = put_each old s.disk.published is; between = put_between (Some old) s.disk.published is });
           stood = none_stood old s.disk.published known;
         }
 
-    put_passes : (old : Files) → old name ≡ there → (s t : Folder) → PassesFile name bytes s t → PassesCopies (IsName name) old s t
-    put_passes old is s t passes = passes_weaker (λ image. IsImage s.disk image ⊎ (image ≡ put s.disk.published name bytes)) (λ image. IsImage s.disk image ⊎ Between (IsName name) old s.disk.published image) more s t passes
+    put_passes : (told : Option Files) → IfSome told (λ old. old name ≡ there) → (s t : Folder) → PassesFile name bytes s t → PassesCopies (IsName name) told s t
+    put_passes told is s t passes = passes_weaker (λ image. IsImage s.disk image ⊎ (image ≡ put s.disk.published name bytes)) (λ image. IsImage s.disk image ⊎ Between (IsName name) told s.disk.published image) more s t passes
       where
-        more : (image : Files) → IsImage s.disk image ⊎ (image ≡ put s.disk.published name bytes) → IsImage s.disk image ⊎ Between (IsName name) old s.disk.published image
+        more : (image : Files) → IsImage s.disk image ⊎ (image ≡ put s.disk.published name bytes) → IsImage s.disk image ⊎ Between (IsName name) told s.disk.published image
         more image (inl was) = inl was
-        more image (inr new) = inr (subst (λ (f : Files). Between (IsName name) old s.disk.published f) (sym new) (put_between old s.disk.published is))
+        more image (inr new) = inr (subst (λ (f : Files). Between (IsName name) told s.disk.published f) (sym new) (put_between told s.disk.published is))
 
     -- behind a read, in which nothing changed
     from_first : (R : Folder → Folder → Type 0) → Goes y.folder.told z.folder.told R → Goes x.folder.told z.folder.told R
     from_first R step = goes_then x.folder.told y.folder.told z.folder.told Stays R R stays step (λ s m t p q. subst (λ (f : Folder). R f t) p q)
 
-    put_moments : Goes y.folder.told z.folder.told (PassesFile name bytes) → GoesBy from x z (PassesCopies (IsName name))
-    put_moments passes = by_known from x.site.told (λ old. old name ≡ there) x.folder.told z.folder.told (PassesCopies (IsName name)) read_there (λ old is. goes_weaker x.folder.told z.folder.told (PassesFile name bytes) (PassesCopies (IsName name) old) (from_first (PassesFile name bytes) passes) (put_passes old is))
+    abbrev told : Option Files
+    told = told_in from x.site.told
 
-    put_reads : (old : Files) → old name ≡ there → (s t : Folder) → (t.disk.published ≡ s.disk.published) ⊎ (t.disk.published ≡ put s.disk.published name bytes) → ReadsCopies (IsName name) old s t
-    put_reads old is s t (inl same_files) other = inl (ap (λ (f : Files). f other) same_files)
-    put_reads old is s t (inr new) other = subst (λ (f : Files). Between (IsName name) old s.disk.published f) (sym new) (put_between old s.disk.published is) other
+    read_told : IfSome told (λ old. old name ≡ there)
+    read_told = in_told from x.site.told (λ old. old name ≡ there) read_there
 
-    put_seen : Goes y.folder.told z.folder.told (λ s t. (t.disk.published ≡ s.disk.published) ⊎ (t.disk.published ≡ put s.disk.published name bytes)) → GoesBy from x z (ReadsCopies (IsName name))
+    put_moments : Goes y.folder.told z.folder.told (PassesFile name bytes) → Goes x.folder.told z.folder.told (PassesCopies (IsName name) told)
+    put_moments passes = goes_weaker x.folder.told z.folder.told (PassesFile name bytes) (PassesCopies (IsName name) told) (from_first (PassesFile name bytes) passes) (put_passes told read_told)
+
+    put_reads : (s t : Folder) → (t.disk.published ≡ s.disk.published) ⊎ (t.disk.published ≡ put s.disk.published name bytes) → ReadsCopies (IsName name) told s t
+    put_reads s t (inl same_files) other = inl (ap (λ (f : Files). f other) same_files)
+    put_reads s t (inr new) other = subst (λ (f : Files). Between (IsName name) told s.disk.published f) (sym new) (put_between told s.disk.published read_told) other
+
+    put_seen : Goes y.folder.told z.folder.told (λ s t. (t.disk.published ≡ s.disk.published) ⊎ (t.disk.published ≡ put s.disk.published name bytes)) → Goes x.folder.told z.folder.told (ReadsCopies (IsName name) told)
     put_seen step =
         let Seen_so : Folder → Folder → Type 0 = λ s t. (t.disk.published ≡ s.disk.published) ⊎ (t.disk.published ≡ put s.disk.published name bytes) in
-        by_known from x.site.told (λ old. old name ≡ there) x.folder.told z.folder.told (ReadsCopies (IsName name)) read_there (λ old is. goes_weaker x.folder.told z.folder.told Seen_so (ReadsCopies (IsName name) old) (from_first Seen_so step) (put_reads old is))
+        goes_weaker x.folder.told z.folder.told Seen_so (ReadsCopies (IsName name) told) (from_first Seen_so step) put_reads
 
     rests_then : (s t : Folder) → KeepsFile name bytes s t → AtRest t
     rests_then s t kept = kept ∙ ap at_rest (sym (ap (λ (d : Disk). d.published) kept))
@@ -265,8 +278,6 @@ module _ (name from : List ℕ) (x y : Places) (there here : Option (List ℕ)) 
       refused = tt;
       reads = put_seen (goes_weaker y.folder.told z.folder.told (KeepsFile name bytes) (λ s t. (t.disk.published ≡ s.disk.published) ⊎ (t.disk.published ≡ put s.disk.published name bytes)) kept (λ s t is. inr (ap (λ (d : Disk). d.published) is)));
       any_moment = put_moments passes;
-      reads_these = from_first (ReadsThese (IsName name)) (goes_weaker y.folder.told z.folder.told (KeepsFile name bytes) (ReadsThese (IsName name)) kept (put_among name bytes));
-      passes_these = from_first (PassesThese (IsName name)) (goes_weaker y.folder.told z.folder.told (PassesFile name bytes) (PassesThese (IsName name)) passes (put_these name bytes));
       folder = subst (λ (n : ℕ). RisesExactlyIf x.folder.faults n false) (sym quiet) folder;
       site = later_faults;
     }
@@ -279,8 +290,6 @@ module _ (name from : List ℕ) (x y : Places) (there here : Option (List ℕ)) 
       refused = told_or_not from x.site.told x.folder.told z.folder.told (λ old s t. StepFails (IsName name) old s.disk.published (Shelf which)) (λ old. goes_weaker x.folder.told z.folder.told (PassesFile name bytes) (λ s t. StepFails (IsName name) old s.disk.published (Shelf which)) (from_first (PassesFile name bytes) passes) (λ s t p. tt));
       reads = put_seen (goes_weaker y.folder.told z.folder.told (KeepFails name bytes which) (λ s t. (t.disk.published ≡ s.disk.published) ⊎ (t.disk.published ≡ put s.disk.published name bytes)) fails (kept_or_not name bytes which));
       any_moment = put_moments passes;
-      reads_these = tt;
-      passes_these = from_first (PassesThese (IsName name)) (goes_weaker y.folder.told z.folder.told (PassesFile name bytes) (PassesThese (IsName name)) passes (put_these name bytes));
       folder = subst (λ (n : ℕ). RisesExactlyIf n z.folder.faults true) (folder.stands refl) rose;
       site = later_faults;
     }

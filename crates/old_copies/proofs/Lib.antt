@@ -1,6 +1,5 @@
 pub mod DraftSteps
 pub mod BetweenLemmas
-pub mod OtherLemmas
 pub mod StepLemmas
 pub mod FileLemmas
 pub mod KeptLemmas

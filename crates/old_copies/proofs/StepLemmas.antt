@@ -5,11 +5,10 @@ use Rattle.edge_io.specs.Disk.{Files, Folder}
 use Rattle.edge_io.specs.Steps.{Goes}
 use Rattle.edge_io.proofs.Going.{goes_then, goes_weaker}
 use Rattle.run_shelf.specs.Images.{AtRest}
-use Rattle.old_copies.specs.Copying.{folder_in, Either, HasCopies, Places, StepFails, PassesCopies, ReadsCopies, Copies, GoesBy, CopyStep, folder_failed, site_failed, ReadsThese, PassesThese}
+use Rattle.old_copies.specs.Copying.{folder_in, Either, HasCopies, Places, StepFails, PassesCopies, ReadsCopies, Copies, CopyStep, told_in, folder_failed, site_failed}
 use Rattle.old_copies.specs.declared.faults.OldCopyFault.{OldCopyFault}
 use Rattle.old_copies.specs.declared.faults.OldCopyFault.TheVariants.{Here, OldHere, StrangeHere, NoStore, NotOld, UnknownFormat, BadCount, OtherFiles, Site, Shelf, NoMemory}
 use Rattle.old_copies.proofs.BetweenLemmas.{between_wider, both_between, copies_wider, passes_wider, other_wider, both_copied, other_back, passes_both}
-use Rattle.old_copies.proofs.OtherLemmas.{only_then, reads_wider, these_wider, these_then}
 
 -- ---- what is told
 
@@ -76,6 +75,16 @@ fails_back A B old files now has BadCount fails = absurd fails
 
 -- ---- steps
 
+module _ (A B : List ℕ → Type 0) (from : List ℕ) (x y : Places) (wider : (name : List ℕ) → A name → B name) where
+  abbrev there : Option Files
+  there = told_in from x.site.told
+
+  reads_more : Goes x.folder.told y.folder.told (ReadsCopies A there) → Goes x.folder.told y.folder.told (ReadsCopies B there)
+  reads_more reads = goes_weaker x.folder.told y.folder.told (ReadsCopies A there) (ReadsCopies B there) reads (λ s t. between_wider A B there s.disk.published t.disk.published wider)
+
+  moments_more : Goes x.folder.told y.folder.told (PassesCopies A there) → Goes x.folder.told y.folder.told (PassesCopies B there)
+  moments_more passes = goes_weaker x.folder.told y.folder.told (PassesCopies A there) (PassesCopies B there) passes (passes_wider A B there wider)
+
 -- a step that failed, among more names
 pub failed_wider : {T U : Type 0} (A B : List ℕ → Type 0) (from : List ℕ) (x y : Places) (fault : OldCopyFault) → ((name : List ℕ) → A name → B name) → CopyStep {T = T} A from x y (Err fault) → CopyStep {T = U} B from x y (Err fault)
 failed_wider {T = T} {U = U} A B from x y fault wider step = record {
@@ -83,10 +92,8 @@ failed_wider {T = T} {U = U} A B from x y fault wider step = record {
   rest = tt;
   copied = tt;
   refused = by_weaker from x.site.told x.folder.told y.folder.told (λ old s t. StepFails A old s.disk.published fault) (λ old s t. StepFails B old s.disk.published fault) step.refused (λ old s t. fails_wider A B old s.disk.published wider fault);
-  reads = by_weaker from x.site.told x.folder.told y.folder.told (ReadsCopies A) (ReadsCopies B) step.reads (λ old s t. between_wider A B old s.disk.published t.disk.published wider);
-  any_moment = by_weaker from x.site.told x.folder.told y.folder.told (PassesCopies A) (PassesCopies B) step.any_moment (λ old. passes_wider A B old wider);
-  reads_these = tt;
-  passes_these = goes_weaker x.folder.told y.folder.told (PassesThese A) (PassesThese B) step.passes_these (these_wider A B wider);
+  reads = reads_more A B from x y wider step.reads;
+  any_moment = moments_more A B from x y wider step.any_moment;
   folder = subst (RisesExactlyIf x.folder.faults y.folder.faults) (same_folder fault) step.folder;
   site = subst (RisesExactlyIf x.site.faults y.site.faults) (same_site fault) step.site;
 }
@@ -124,35 +131,32 @@ done_same A B from x y value other wider back step = record {
   rest = step.rest;
   copied = by_weaker from x.site.told x.folder.told y.folder.told (Copies A) (Copies B) step.copied (λ old s t. copies_wider A B old s t wider back);
   refused = tt;
-  reads = by_weaker from x.site.told x.folder.told y.folder.told (ReadsCopies A) (ReadsCopies B) step.reads (λ old s t. between_wider A B old s.disk.published t.disk.published wider);
-  any_moment = by_weaker from x.site.told x.folder.told y.folder.told (PassesCopies A) (PassesCopies B) step.any_moment (λ old. passes_wider A B old wider);
-  reads_these = goes_weaker x.folder.told y.folder.told (ReadsThese A) (ReadsThese B) step.reads_these (reads_wider A B wider);
-  passes_these = goes_weaker x.folder.told y.folder.told (PassesThese A) (PassesThese B) step.passes_these (these_wider A B wider);
+  reads = reads_more A B from x y wider step.reads;
+  any_moment = moments_more A B from x y wider step.any_moment;
   folder = step.folder;
   site = step.site;
 }
 
 -- one step behind another that was done
 module _ {T : Type 0} (A B : List ℕ → Type 0) (from : List ℕ) (x y z : Places) (value : T) (first : CopyStep A from x y (Ok value)) where
-  moments : {U : Type 0} (result : Result U OldCopyFault) → CopyStep B from y z result → GoesBy from x z (PassesCopies (Either A B))
+  abbrev first_told : Option Files
+  first_told = told_in from x.site.told
+
+  -- the same is told of the other folder behind it
+  second_there : (R : Option Files → Folder → Folder → Type 0) → Goes y.folder.told z.folder.told (R (told_in from y.site.told)) → Goes y.folder.told z.folder.told (R first_told)
+  second_there R step = subst (λ (w : Option Files). Goes y.folder.told z.folder.told (R (told_in from w))) first.same step
+
+  reads_then : {U : Type 0} (result : Result U OldCopyFault) → CopyStep B from y z result → Goes x.folder.told z.folder.told (ReadsCopies (Either A B) first_told)
+  reads_then result second =
+      goes_then x.folder.told y.folder.told z.folder.told (ReadsCopies A first_told) (ReadsCopies B first_told) (ReadsCopies (Either A B) first_told) first.reads (second_there (ReadsCopies B) second.reads)
+      (λ s m t p q. both_between A B first_told s.disk.published m.disk.published t.disk.published p q)
+
+  moments : {U : Type 0} (result : Result U OldCopyFault) → CopyStep B from y z result → Goes x.folder.told z.folder.told (PassesCopies (Either A B) first_told)
   moments result second =
-      by_then from x.site.told y.site.told x.folder.told y.folder.told z.folder.told first.same first.rest (λ old s m. Copies A old s m × PassesCopies A old s m) (PassesCopies B) (PassesCopies (Either A B))
-      (pair_by x.site.told first.copied first.any_moment) second.any_moment
-      (λ old s m t rest p q. passes_both A B old s m rest p.0 t p.1 q)
-    where
-      pair_by : (w : Option Files) → IfSome w (λ files. Goes x.folder.told y.folder.told (Copies A (folder_in from files))) → IfSome w (λ files. Goes x.folder.told y.folder.told (PassesCopies A (folder_in from files))) → IfSome w (λ files. Goes x.folder.told y.folder.told (λ s m. Copies A (folder_in from files) s m × PassesCopies A (folder_in from files) s m))
-      pair_by None one two = tt
-      pair_by (Some files) one two = goes_both x.folder.told y.folder.told (Copies A (folder_in from files)) (PassesCopies A (folder_in from files)) one two
-
-  reads_then : {U : Type 0} (result : Result U OldCopyFault) → CopyStep B from y z result → GoesBy from x z (ReadsCopies (Either A B))
-  reads_then result second = by_then from x.site.told y.site.told x.folder.told y.folder.told z.folder.told first.same first.rest (Copies A) (ReadsCopies B) (ReadsCopies (Either A B)) first.copied second.reads (λ old s m t rest p q. both_between A B old s.disk.published m.disk.published p.has t.disk.published q)
-
-  others : {U : Type 0} (result : Result U OldCopyFault) → CopyStep B from y z result → Goes x.folder.told z.folder.told (PassesThese (Either A B))
-  others result second =
-      goes_then x.folder.told y.folder.told z.folder.told (λ s m. AtRest m × (ReadsThese A s m × PassesThese A s m)) (PassesThese B) (PassesThese (Either A B))
-      (goes_to x.folder.told y.folder.told (λ s m. ReadsThese A s m × PassesThese A s m) AtRest first.rest (goes_both x.folder.told y.folder.told (ReadsThese A) (PassesThese A) first.reads_these first.passes_these))
-      second.passes_these
-      (λ s m t p q. these_then A B s m p.0 p.1.0 t p.1.1 q)
+      goes_then x.folder.told y.folder.told z.folder.told (λ s m. AtRest m × (ReadsCopies A first_told s m × PassesCopies A first_told s m)) (PassesCopies B first_told) (PassesCopies (Either A B) first_told)
+      (goes_to x.folder.told y.folder.told (λ s m. ReadsCopies A first_told s m × PassesCopies A first_told s m) AtRest first.rest (goes_both x.folder.told y.folder.told (ReadsCopies A first_told) (PassesCopies A first_told) first.reads first.any_moment))
+      (second_there (PassesCopies B) second.any_moment)
+      (λ s m t p q. passes_both A B first_told s m p.0 p.1.0 t p.1.1 q)
 
   pub step_then : {U : Type 0} (result : Result U OldCopyFault) → CopyStep B from y z result → CopyStep (Either A B) from x z result
   step_then (Ok done) second = record {
@@ -162,8 +166,6 @@ module _ {T : Type 0} (A B : List ℕ → Type 0) (from : List ℕ) (x y z : Pla
     refused = tt;
     reads = reads_then (Ok done) second;
     any_moment = moments (Ok done) second;
-    reads_these = goes_then x.folder.told y.folder.told z.folder.told (ReadsThese A) (ReadsThese B) (ReadsThese (Either A B)) first.reads_these second.reads_these (λ s m t p q. only_then A B s.disk.published m.disk.published t.disk.published p q);
-    passes_these = others (Ok done) second;
     folder = counts_then x.folder.faults y.folder.faults z.folder.faults false first.folder second.folder;
     site = counts_then x.site.faults y.site.faults z.site.faults false first.site second.site;
   }
@@ -174,8 +176,6 @@ module _ {T : Type 0} (A B : List ℕ → Type 0) (from : List ℕ) (x y z : Pla
     refused = by_then from x.site.told y.site.told x.folder.told y.folder.told z.folder.told first.same first.rest (Copies A) (λ old s t. StepFails B old s.disk.published fault) (λ old s t. StepFails (Either A B) old s.disk.published fault) first.copied second.refused (λ old s m t rest p q. fails_back A B old s.disk.published m.disk.published p.has fault q);
     reads = reads_then (Err fault) second;
     any_moment = moments (Err fault) second;
-    reads_these = tt;
-    passes_these = others (Err fault) second;
     folder = counts_then x.folder.faults y.folder.faults z.folder.faults _ first.folder second.folder;
     site = counts_then x.site.faults y.site.faults z.site.faults _ first.site second.site;
   }

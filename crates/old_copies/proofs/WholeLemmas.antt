@@ -14,12 +14,12 @@ use Rattle.run_shelf.specs.Images.{AtRest, PassesOld}
 use Rattle.run_shelf.specs.Outcomes.{FailsAt}
 use Rattle.run_shelf.specs.Repository.{full_name, format_name, most_runs}
 use Rattle.run_shelf.proofs.Joining.{rest_images, goes_beside, goes_after, goes_with, settled_stays, some_after}
-use Rattle.old_copies.specs.Copying.{folder_in, IsName, Either, IsRunBelow, IsCopiedFirst, IsCopied, Between, HasCopies, HoldsOnlyCopies, HoldsOther, Places, places, folder_failed, site_failed, StepFails, PassesCopies, ReadsCopies, Copies, CopyStep, IsBeingCopied, PassesWay, ReadsWay, CopiesAll, IsOldFolder, PassesTaking, TakesFiles, HasOtherFiles, SameReads, CopyFails, CopiesOld, OnlyThese, ReadsThese, PassesThese}
+use Rattle.old_copies.specs.Copying.{folder_in, IsName, Either, IsRunBelow, IsCopiedFirst, IsCopied, Between, HasCopies, HoldsOnlyCopies, HoldsOther, Places, places, folder_failed, site_failed, StepFails, PassesCopies, ReadsCopies, Copies, CopyStep, IsBeingCopied, PassesWay, ReadsWay, CopiesAll, IsOldFolder, PassesTaking, TakesFiles, HasOtherFiles, SameReads, CopyFails, CopiesOld, told_in}
 use Rattle.old_copies.specs.Looking.{IsFree, HereFails, HoldsNoOther, CopyNamesFail, CopyLookFails}
 use Rattle.old_copies.specs.declared.faults.OldCopyFault.{OldCopyFault}
 use Rattle.old_copies.specs.declared.faults.OldCopyFault.TheVariants as fault
-use Rattle.old_copies.proofs.BetweenLemmas.{between_self, both_between}
-use Rattle.old_copies.proofs.FileLemmas.{rests, told_or_not, by_known}
+use Rattle.old_copies.proofs.BetweenLemmas.{between_self, between_untold, both_between}
+use Rattle.old_copies.proofs.FileLemmas.{rests, told_or_not, by_known, as_told}
 use Rattle.old_copies.proofs.TextLemmas.{copied_is_text}
 use Rattle.old_copies.proofs.StepLemmas.{goes_both, goes_to, by_weaker, by_then, counts_then, failed_wider, done_same, step_then}
 
@@ -51,12 +51,10 @@ pub no_runs : {T : Type 0} (from : List ℕ) (x : Places) (value : T) → IfSome
 no_runs from x value rest = record {
   same = refl;
   rest = rest;
-  copied = told_or_not from x.site.told x.folder.told x.folder.told (Copies (IsRunBelow 0)) (λ old. still (Copies (IsRunBelow 0) old) x.folder.told (λ s. record { has = record { each = λ name below. absurd (omega (arith, below.1)); between = between_self (IsRunBelow 0) old s.disk.published }; stood = λ name below. absurd (omega (arith, below.1)) }));
+  copied = told_or_not from x.site.told x.folder.told x.folder.told (Copies (IsRunBelow 0)) (λ old. still (Copies (IsRunBelow 0) old) x.folder.told (λ s. record { has = record { each = λ name below. absurd (omega (arith, below.1)); between = between_self (IsRunBelow 0) (Some old) s.disk.published }; stood = λ name below. absurd (omega (arith, below.1)) }));
   refused = tt;
-  reads = told_or_not from x.site.told x.folder.told x.folder.told (ReadsCopies (IsRunBelow 0)) (λ old. still (ReadsCopies (IsRunBelow 0) old) x.folder.told (λ s. between_self (IsRunBelow 0) old s.disk.published));
-  any_moment = told_or_not from x.site.told x.folder.told x.folder.told (PassesCopies (IsRunBelow 0)) (λ old. still (PassesCopies (IsRunBelow 0) old) x.folder.told (λ s. passes_same (λ image. IsImage s.disk image ⊎ Between (IsRunBelow 0) old s.disk.published image) s s refl refl));
-  reads_these = still (ReadsThese (IsRunBelow 0)) x.folder.told (λ s name. inl refl);
-  passes_these = still (PassesThese (IsRunBelow 0)) x.folder.told (λ s. passes_same (λ image. IsImage s.disk image ⊎ OnlyThese (IsRunBelow 0) s.disk.published image) s s refl refl);
+  reads = still (ReadsCopies (IsRunBelow 0) (told_in from x.site.told)) x.folder.told (λ s. between_self (IsRunBelow 0) (told_in from x.site.told) s.disk.published);
+  any_moment = still (PassesCopies (IsRunBelow 0) (told_in from x.site.told)) x.folder.told (λ s. passes_same (λ image. IsImage s.disk image ⊎ Between (IsRunBelow 0) (told_in from x.site.told) s.disk.published image) s s refl refl);
   folder = rests x.folder.faults x.folder.faults refl;
   site = rests x.site.faults x.site.faults refl;
 }
@@ -79,16 +77,16 @@ runs_stop {U = U} count i from x y z value bad less first second =
 -- ---- `format` last
 
 module _ (count : ℕ) (old : Files) where
-  pub way_first : (s t : Folder) → PassesCopies (IsCopiedFirst count) old s t → PassesWay count old s t
-  way_first s t passes = passes_weaker (λ image. IsImage s.disk image ⊎ Between (IsCopiedFirst count) old s.disk.published image) (λ image. IsImage s.disk image ⊎ IsBeingCopied count old s.disk.published image) more s t passes
+  pub way_first : (s t : Folder) → PassesCopies (IsCopiedFirst count) (Some old) s t → PassesWay count old s t
+  way_first s t passes = passes_weaker (λ image. IsImage s.disk image ⊎ Between (IsCopiedFirst count) (Some old) s.disk.published image) (λ image. IsImage s.disk image ⊎ IsBeingCopied count old s.disk.published image) more s t passes
     where
-      more : (image : Files) → IsImage s.disk image ⊎ Between (IsCopiedFirst count) old s.disk.published image → IsImage s.disk image ⊎ IsBeingCopied count old s.disk.published image
+      more : (image : Files) → IsImage s.disk image ⊎ Between (IsCopiedFirst count) (Some old) s.disk.published image → IsImage s.disk image ⊎ IsBeingCopied count old s.disk.published image
       more image (inl was) = inl was
       more image (inr between) = inr (inl between)
 
   module _ (s m : Folder) (rest : AtRest m) (has : HasCopies (IsCopiedFirst count) old s.disk.published m.disk.published) where
     -- without `format` it is as before that
-    without : (image : Files) → Between (IsName format_name) old m.disk.published image → image format_name ≡ m.disk.published format_name → Between (IsCopiedFirst count) old s.disk.published image
+    without : (image : Files) → Between (IsName format_name) (Some old) m.disk.published image → image format_name ≡ m.disk.published format_name → Between (IsCopiedFirst count) (Some old) s.disk.published image
     without image between same name = from_old (has.between name)
       where
         is_old : image name ≡ m.disk.published name
@@ -102,8 +100,8 @@ module _ (count : ℕ) (old : Files) where
         from_old (inr taken) = inr (taken.0, is_old ∙ taken.1)
 
     -- with it all are copied
-    with_it : (image : Files) → Between (IsName format_name) old m.disk.published image → image format_name ≡ old format_name → HasCopies (IsCopied count) old s.disk.published image
-    with_it image between is = record { each = each_of; between = both_between (IsCopiedFirst count) (IsName format_name) old s.disk.published m.disk.published has image between }
+    with_it : (image : Files) → Between (IsName format_name) (Some old) m.disk.published image → image format_name ≡ old format_name → HasCopies (IsCopied count) old s.disk.published image
+    with_it image between is = record { each = each_of; between = both_between (IsCopiedFirst count) (IsName format_name) (Some old) s.disk.published m.disk.published image has.between between }
       where
         each_of : (name : List ℕ) → IsCopied count name → image name ≡ old name
         each_of name (inr named) = ap image named ∙ is ∙ sym (ap old named)
@@ -112,22 +110,22 @@ module _ (count : ℕ) (old : Files) where
           | inr taken ↦ taken.1
         ]
 
-    pub last_between : (image : Files) → Between (IsName format_name) old m.disk.published image → IsBeingCopied count old s.disk.published image
+    pub last_between : (image : Files) → Between (IsName format_name) (Some old) m.disk.published image → IsBeingCopied count old s.disk.published image
     last_between image between = elim (between format_name) [
       | inl same ↦ inl (without image between same)
       | inr taken ↦ inr (with_it image between taken.1)
     ]
 
-    last_image : (image : Files) → IsImage m.disk image ⊎ Between (IsName format_name) old m.disk.published image → IsImage s.disk image ⊎ IsBeingCopied count old s.disk.published image
+    last_image : (image : Files) → IsImage m.disk image ⊎ Between (IsName format_name) (Some old) m.disk.published image → IsImage s.disk image ⊎ IsBeingCopied count old s.disk.published image
     last_image image (inl was) =
         let is : image ≡ m.disk.published = rest_images m.disk.published image (subst (λ (d : Disk). IsImage d image) rest was) in
-        inr (inl (subst (λ (f : Files). Between (IsCopiedFirst count) old s.disk.published f) (sym is) has.between))
+        inr (inl (subst (λ (f : Files). Between (IsCopiedFirst count) (Some old) s.disk.published f) (sym is) has.between))
     last_image image (inr between) = inr (last_between image between)
 
-    pub way_then : (t : Folder) → PassesCopies (IsCopiedFirst count) old s m → PassesCopies (IsName format_name) old m t → PassesWay count old s t
+    pub way_then : (t : Folder) → PassesCopies (IsCopiedFirst count) (Some old) s m → PassesCopies (IsName format_name) (Some old) m t → PassesWay count old s t
     way_then t first second =
         passes_then (λ image. IsImage s.disk image ⊎ IsBeingCopied count old s.disk.published image) s m t (way_first s m first)
-        (passes_weaker (λ image. IsImage m.disk image ⊎ Between (IsName format_name) old m.disk.published image) (λ image. IsImage s.disk image ⊎ IsBeingCopied count old s.disk.published image) last_image m t second)
+        (passes_weaker (λ image. IsImage m.disk image ⊎ Between (IsName format_name) (Some old) m.disk.published image) (λ image. IsImage s.disk image ⊎ IsBeingCopied count old s.disk.published image) last_image m t second)
 
 first_named : (count : ℕ) (name : List ℕ) → IsCopiedFirst count name → IsCopied count name
 first_named count name first = inl first
@@ -135,23 +133,23 @@ first_named count name first = inl first
 pub all_stop : {T U : Type 0} (count : ℕ) (from : List ℕ) (x y : Places) (bad : OldCopyFault) → CopyStep {T = T} (IsCopiedFirst count) from x y (Err bad) → CopiesAll {T = U} count from x y (Err bad)
 all_stop {T = T} count from x y bad step = record {
   step = failed_wider {T = T} (IsCopiedFirst count) (IsCopied count) from x y bad (first_named count) step;
-  reads = by_weaker from x.site.told x.folder.told y.folder.told (ReadsCopies (IsCopiedFirst count)) (ReadsWay count) step.reads (λ old s t between. inl between);
-  way = by_weaker from x.site.told x.folder.told y.folder.told (PassesCopies (IsCopiedFirst count)) (PassesWay count) step.any_moment (way_first count);
+  reads = by_weaker from x.site.told x.folder.told y.folder.told (λ old. ReadsCopies (IsCopiedFirst count) (Some old)) (ReadsWay count) (as_told from x.site.told x.folder.told y.folder.told (ReadsCopies (IsCopiedFirst count)) step.reads) (λ old s t between. inl between);
+  way = by_weaker from x.site.told x.folder.told y.folder.told (λ old. PassesCopies (IsCopiedFirst count) (Some old)) (PassesWay count) (as_told from x.site.told x.folder.told y.folder.told (PassesCopies (IsCopiedFirst count)) step.any_moment) (way_first count);
 }
 
 pub all_then : {T U : Type 0} (count : ℕ) (from : List ℕ) (x y z : Places) (value : T) (result : Result U OldCopyFault) → CopyStep (IsCopiedFirst count) from x y (Ok value) → CopyStep (IsName format_name) from y z result → CopiesAll count from x z result
 all_then count from x y z value result first second = record {
   step = step_then (IsCopiedFirst count) (IsName format_name) from x y z value first result second;
-  reads = by_then from x.site.told y.site.told x.folder.told y.folder.told z.folder.told first.same first.rest (Copies (IsCopiedFirst count)) (ReadsCopies (IsName format_name)) (ReadsWay count) first.copied second.reads
+  reads = by_then from x.site.told y.site.told x.folder.told y.folder.told z.folder.told first.same first.rest (Copies (IsCopiedFirst count)) (λ old. ReadsCopies (IsName format_name) (Some old)) (ReadsWay count) first.copied (as_told from y.site.told y.folder.told z.folder.told (ReadsCopies (IsName format_name)) second.reads)
       (λ old s m t rest p q. last_between count old s m rest p.has t.disk.published q);
-  way = by_then from x.site.told y.site.told x.folder.told y.folder.told z.folder.told first.same first.rest (λ old s m. Copies (IsCopiedFirst count) old s m × PassesCopies (IsCopiedFirst count) old s m) (PassesCopies (IsName format_name)) (PassesWay count)
-      (pair_by x.site.told first.copied first.any_moment) second.any_moment
+  way = by_then from x.site.told y.site.told x.folder.told y.folder.told z.folder.told first.same first.rest (λ old s m. Copies (IsCopiedFirst count) old s m × PassesCopies (IsCopiedFirst count) (Some old) s m) (λ old. PassesCopies (IsName format_name) (Some old)) (PassesWay count)
+      (pair_by x.site.told first.copied (as_told from x.site.told x.folder.told y.folder.told (PassesCopies (IsCopiedFirst count)) first.any_moment)) (as_told from y.site.told y.folder.told z.folder.told (PassesCopies (IsName format_name)) second.any_moment)
       (λ old s m t rest p q. way_then count old s m rest p.0.has t p.1 q);
 }
   where
-    pair_by : (w : Option Files) → IfSome w (λ files. Goes x.folder.told y.folder.told (Copies (IsCopiedFirst count) (folder_in from files))) → IfSome w (λ files. Goes x.folder.told y.folder.told (PassesCopies (IsCopiedFirst count) (folder_in from files))) → IfSome w (λ files. Goes x.folder.told y.folder.told (λ s m. Copies (IsCopiedFirst count) (folder_in from files) s m × PassesCopies (IsCopiedFirst count) (folder_in from files) s m))
+    pair_by : (w : Option Files) → IfSome w (λ files. Goes x.folder.told y.folder.told (Copies (IsCopiedFirst count) (folder_in from files))) → IfSome w (λ files. Goes x.folder.told y.folder.told (PassesCopies (IsCopiedFirst count) (Some (folder_in from files)))) → IfSome w (λ files. Goes x.folder.told y.folder.told (λ s m. Copies (IsCopiedFirst count) (folder_in from files) s m × PassesCopies (IsCopiedFirst count) (Some (folder_in from files)) s m))
     pair_by None one two = tt
-    pair_by (Some files) one two = goes_both x.folder.told y.folder.told (Copies (IsCopiedFirst count) (folder_in from files)) (PassesCopies (IsCopiedFirst count) (folder_in from files)) one two
+    pair_by (Some files) one two = goes_both x.folder.told y.folder.told (Copies (IsCopiedFirst count) (folder_in from files)) (PassesCopies (IsCopiedFirst count) (Some (folder_in from files))) one two
 
 -- ---- the looks before
 
@@ -175,7 +173,7 @@ old_moments old s t passes = passes_weaker (IsImage s.disk) (λ image. IsImage s
 
 -- what stands beside the files, where nothing is told of the other folder
 abbrev UntoldBeside : Files → Files → Type 0
-UntoldBeside files image = (count : ℕ) × OnlyThese (IsCopied count) files image
+UntoldBeside files image = (count : ℕ) × Between (IsCopied count) None files image
 
 abbrev PassesUntold : Folder → Folder → Type 0
 PassesUntold s t = Passes (λ image. IsImage s.disk image ⊎ UntoldBeside s.disk.published image) s t
@@ -183,12 +181,12 @@ PassesUntold s t = Passes (λ image. IsImage s.disk image ⊎ UntoldBeside s.dis
 old_untold : (s t : Folder) → PassesOld s t → PassesUntold s t
 old_untold s t passes = passes_weaker (IsImage s.disk) (λ image. IsImage s.disk image ⊎ UntoldBeside s.disk.published image) (λ image was. inl was) s t passes
 
-these_untold : (count : ℕ) (s t : Folder) → PassesThese (IsCopied count) s t → PassesUntold s t
-these_untold count s t passes = passes_weaker (λ image. IsImage s.disk image ⊎ OnlyThese (IsCopied count) s.disk.published image) (λ image. IsImage s.disk image ⊎ UntoldBeside s.disk.published image) more s t passes
+copies_untold : (count : ℕ) (told : Option Files) (s t : Folder) → PassesCopies (IsCopied count) told s t → PassesUntold s t
+copies_untold count told s t passes = passes_weaker (λ image. IsImage s.disk image ⊎ Between (IsCopied count) told s.disk.published image) (λ image. IsImage s.disk image ⊎ UntoldBeside s.disk.published image) more s t passes
   where
-    more : (image : Files) → IsImage s.disk image ⊎ OnlyThese (IsCopied count) s.disk.published image → IsImage s.disk image ⊎ UntoldBeside s.disk.published image
+    more : (image : Files) → IsImage s.disk image ⊎ Between (IsCopied count) told s.disk.published image → IsImage s.disk image ⊎ UntoldBeside s.disk.published image
     more image (inl was) = inl was
-    more image (inr only) = inr (count, only)
+    more image (inr between) = inr (count, between_untold (IsCopied count) told s.disk.published image between)
 
 -- by what is told of it
 taking : (from : List ℕ) (w : Option Files) (a b : Option Folder) → IfSome w (λ files. Goes a b (PassesBeside (folder_in from files))) → Goes a b PassesUntold → Goes a b (PassesTaking from w)
@@ -336,8 +334,8 @@ module _ (from : List ℕ) (f g : Seen Folder) (w v : Seen Files) (counts : IfSo
       moments_by None is way = tt
       moments_by (Some files) is way = goes_after f.told h.told counts settled_all i.told (TakingBeside (folder_in from files)) (goes_weaker h.told i.told (PassesWay count (folder_in from files)) (λ m t. Passes (λ image. IsImage m.disk image ⊎ TakingBeside (folder_in from files) m.disk.published image) m t) way (way_beside count (folder_in from files) is))
 
-      untold : Goes h.told i.told (PassesThese (IsCopied count)) → Goes f.told i.told PassesUntold
-      untold passes = goes_after f.told h.told counts settled_all i.told UntoldBeside (goes_weaker h.told i.told (PassesThese (IsCopied count)) PassesUntold passes (these_untold count))
+      untold : (told : Option Files) → Goes h.told i.told (PassesCopies (IsCopied count) told) → Goes f.told i.told PassesUntold
+      untold told passes = goes_after f.told h.told counts settled_all i.told UntoldBeside (goes_weaker h.told i.told (PassesCopies (IsCopied count) told) PassesUntold passes (copies_untold count told))
 
       by_first : (Q : Files → Type 0) → IfSome v.told Q → IfSome w.told Q
       by_first Q known = subst (λ (o : Option Files). IfSome o Q) same known
@@ -374,7 +372,7 @@ module _ (from : List ℕ) (f g : Seen Folder) (w v : Seen Files) (counts : IfSo
         same = all.step.same ∙ same;
         copied = by_known_too w.told is_old (by_first (λ files. Goes h.told i.told (Copies (IsCopied count) (folder_in from files))) all.step.copied);
         refused = tt;
-        any_moment = taking from w.told f.told i.told (moments_by w.told is_old (by_first (λ files. Goes h.told i.told (PassesWay count (folder_in from files))) all.way)) (untold all.step.passes_these);
+        any_moment = taking from w.told f.told i.told (moments_by w.told is_old (by_first (λ files. Goes h.told i.told (PassesWay count (folder_in from files))) all.way)) (untold (told_in from v.told) all.step.any_moment);
         folder = counts_then f.faults h.faults i.faults false folder all.step.folder;
         site = counts_then w.faults v.faults u.faults false site all.step.site;
       }
@@ -392,7 +390,7 @@ module _ (from : List ℕ) (f g : Seen Folder) (w v : Seen Files) (counts : IfSo
         same = all.step.same ∙ same;
         copied = tt;
         refused = by_refused w.told is_old (by_first (λ files. Goes h.told i.told (λ m t. StepFails (IsCopied count) (folder_in from files) m.disk.published bad)) all.step.refused) (by_first (λ files. Goes h.told i.told (ReadsWay count (folder_in from files))) all.reads);
-        any_moment = taking from w.told f.told i.told (moments_by w.told is_old (by_first (λ files. Goes h.told i.told (PassesWay count (folder_in from files))) all.way)) (untold all.step.passes_these);
+        any_moment = taking from w.told f.told i.told (moments_by w.told is_old (by_first (λ files. Goes h.told i.told (PassesWay count (folder_in from files))) all.way)) (untold (told_in from v.told) all.step.any_moment);
         folder = counts_then f.faults h.faults i.faults _ folder all.step.folder;
         site = counts_then w.faults v.faults u.faults _ site all.step.site;
       }

@@ -24,6 +24,11 @@ path_below from name = from ++ 47 ∷ name
 abbrev pub folder_in : List ℕ → Files → Files
 folder_in from files = λ name. files (path_below from name)
 
+-- the same where they are told
+abbrev pub told_in : List ℕ → Option Files → Option Files
+told_in from None = None
+told_in from (Some files) = Some (folder_in from files)
+
 -- ---- the names that are copied
 
 -- this name
@@ -48,15 +53,15 @@ IsCopied count = Either (IsCopiedFirst count) (IsName format_name)
 
 -- ---- files here, some of which are those of the other folder
 
--- Each file is as before, or it has one of these names and is the other folder's of its name: with the same bytes, or absent
--- as it is there.
-abbrev pub Between : (Of : List ℕ → Type 0) → (old files image : Files) → Type 0
-Between Of old files image = (name : List ℕ) → (image name ≡ files name) ⊎ (Of name × (image name ≡ old name))
+-- Each file is as before, or it has one of these names and, where the other folder is told, is that one's of its name: with the
+-- same bytes, or absent as it is there.
+abbrev pub Between : (Of : List ℕ → Type 0) → (told : Option Files) → (files image : Files) → Type 0
+Between Of told files image = (name : List ℕ) → (image name ≡ files name) ⊎ (Of name × IfSome told (λ old. image name ≡ old name))
 
 -- all files of these names are those of the other folder, and nothing else differs
 pub record HasCopies (Of : List ℕ → Type 0) (old files image : Files) : Type 0 where
   pub each : (name : List ℕ) → Of name → image name ≡ old name
-  pub between : Between Of old files image
+  pub between : Between Of (Some old) files image
 
 -- each file of one of these names that stands here is the other folder's
 abbrev pub HoldsOnlyCopies : (Of : List ℕ → Type 0) → (old files : Files) → Type 0
@@ -99,24 +104,12 @@ StepFails Of old files NoMemory = ⊤
 StepFails Of old files fault = ⊥
 
 -- a stop at each moment leaves what one at the first might have left, or some of the copies
-abbrev pub PassesCopies : (Of : List ℕ → Type 0) → (old : Files) → Folder → Folder → Type 0
-PassesCopies Of old s t = Passes (λ image. IsImage s.disk image ⊎ Between Of old s.disk.published image) s t
+abbrev pub PassesCopies : (Of : List ℕ → Type 0) → (told : Option Files) → Folder → Folder → Type 0
+PassesCopies Of told s t = Passes (λ image. IsImage s.disk image ⊎ Between Of told s.disk.published image) s t
 
 -- reads give the files as they were, or some of them as copies
-abbrev pub ReadsCopies : (Of : List ℕ → Type 0) → (old : Files) → Folder → Folder → Type 0
-ReadsCopies Of old s t = Between Of old s.disk.published t.disk.published
-
--- each file is as before, but for those of these names
-abbrev pub OnlyThese : (Of : List ℕ → Type 0) → (files image : Files) → Type 0
-OnlyThese Of files image = (name : List ℕ) → (image name ≡ files name) ⊎ Of name
-
--- reads give such files
-abbrev pub ReadsThese : (Of : List ℕ → Type 0) → Folder → Folder → Type 0
-ReadsThese Of s t = OnlyThese Of s.disk.published t.disk.published
-
--- a stop at each moment leaves what one at the first might have left, or such files
-abbrev pub PassesThese : (Of : List ℕ → Type 0) → Folder → Folder → Type 0
-PassesThese Of s t = Passes (λ image. IsImage s.disk image ⊎ OnlyThese Of s.disk.published image) s t
+abbrev pub ReadsCopies : (Of : List ℕ → Type 0) → (told : Option Files) → Folder → Folder → Type 0
+ReadsCopies Of told s t = Between Of told s.disk.published t.disk.published
 
 -- the copies are there, and what stood here under their names before had the same bytes
 pub record Copies (Of : List ℕ → Type 0) (old : Files) (s t : Folder) : Type 0 where
@@ -133,11 +126,8 @@ pub record CopyStep {T : Type 0} (Of : List ℕ → Type 0) (from : List ℕ) (b
   pub rest : OnOk result (IfSome after.folder.told AtRest)
   pub copied : OnOk result (GoesBy from before after (Copies Of))
   pub refused : IfErr result (λ fault. GoesBy from before after (λ old s t. StepFails Of old s.disk.published fault))
-  pub reads : GoesBy from before after (ReadsCopies Of)
-  pub any_moment : GoesBy from before after (PassesCopies Of)
-  -- whatever is told of the other folder
-  pub reads_these : OnOk result (Goes before.folder.told after.folder.told (ReadsThese Of))
-  pub passes_these : Goes before.folder.told after.folder.told (PassesThese Of)
+  pub reads : Goes before.folder.told after.folder.told (ReadsCopies Of (told_in from before.site.told))
+  pub any_moment : Goes before.folder.told after.folder.told (PassesCopies Of (told_in from before.site.told))
   pub folder : RisesExactlyIf before.folder.faults after.folder.faults (folder_failed result)
   pub site : RisesExactlyIf before.site.faults after.site.faults (site_failed result)
 
@@ -145,7 +135,7 @@ pub record CopyStep {T : Type 0} (Of : List ℕ → Type 0) (from : List ℕ) (b
 
 -- some files but `format` were copied, or all were
 abbrev pub IsBeingCopied : ℕ → (old files image : Files) → Type 0
-IsBeingCopied count old files image = Between (IsCopiedFirst count) old files image ⊎ HasCopies (IsCopied count) old files image
+IsBeingCopied count old files image = Between (IsCopiedFirst count) (Some old) files image ⊎ HasCopies (IsCopied count) old files image
 
 -- a stop at each moment leaves what one at the first might have left, or files on the way
 abbrev pub PassesWay : ℕ → (old : Files) → Folder → Folder → Type 0
@@ -169,7 +159,7 @@ pub record IsOldFolder (count : ℕ) (old : Files) : Type 0 where
 -- Files on the way, where the other folder is of these files of the system, and of the original tool. Where those are not told,
 -- only files of names differ that are copied.
 abbrev pub IsOnWay : (from : List ℕ) → Option Files → (files image : Files) → Type 0
-IsOnWay from None files image = (count : ℕ) × OnlyThese (IsCopied count) files image
+IsOnWay from None files image = (count : ℕ) × Between (IsCopied count) None files image
 IsOnWay from (Some told) files image = (count : ℕ) × IsOldFolder count (folder_in from told) × IsBeingCopied count (folder_in from told) files image
 
 -- a stop at each moment leaves what one at the first might have left, or files on the way
