@@ -16,7 +16,7 @@ use Rattle.outcome_fold.specs.Rows.{is_failure, is_skip, completed_rows, open_ro
 use Rattle.outcome_fold.specs.Answers.{is_existing, is_run, is_counted, row_passes, row_fails, is_skipped, seen_tags_of, counts_of}
 use Rattle.outcome_fold.proofs.TotalLemmas.{total, total_is, total_append}
 use Rattle.outcome_fold.proofs.LawLemmas.{as_many}
-use Rattle.outcome_fold.proofs.SetLemmas.{same_order, order_append}
+use Rattle.outcome_fold.proofs.SetLemmas.{same_order, among_order, among_both, order_append}
 use Rattle.sub_text.specs.Listed.{counts_lines}
 use Rattle.filter_cli.specs.declared.tally.Kind.{Kind}
 use Rattle.filter_cli.specs.declared.tally.Kind.TheVariants as kind
@@ -36,10 +36,18 @@ tags_push rows row b is =
     ap (flat_map tags_in) (filter-append is_run rows (row ∷ [])) ∙ flat_map-append tags_in (filter is_run rows) (filter is_run (row ∷ []))
     ∙ ap (λ b. run_tags rows ++ flat_map tags_in (cond b (row ∷ []) [])) is
 
+-- tags in another order, or more than once, are the same in order
+order_alike : (old texts others : List (List ℕ)) → in_byte_order texts ≡ in_byte_order others → in_byte_order (old ++ texts) ≡ in_byte_order (old ++ others)
+order_alike old texts others same =
+    same_order (old ++ texts) (old ++ others) (λ q.
+    among_both old texts q
+    ∙ ap (λ b. among old q || b) (sym (among_order texts q) ∙ ap (λ l. among l q) same ∙ among_order others q)
+    ∙ sym (among_both old others q))
+
 -- the tags of one test more that ran
-pub tags_more : (rows : List Row) (row : Row) (old new : List (List ℕ)) → old ≡ seen_tags_of rows → is_run row ≡ true → new ≡ in_byte_order (old ++ row.tags) → new ≡ seen_tags_of (rows ++ row ∷ [])
-tags_more rows row old new before runs is =
-    is ∙ ap (λ l. in_byte_order (l ++ row.tags)) before ∙ order_append (run_tags rows) row.tags
+pub tags_more : (rows : List Row) (row : Row) (texts old new : List (List ℕ)) → in_byte_order row.tags ≡ in_byte_order texts → old ≡ seen_tags_of rows → is_run row ≡ true → new ≡ in_byte_order (old ++ texts) → new ≡ seen_tags_of (rows ++ row ∷ [])
+tags_more rows row texts old new same before runs is =
+    is ∙ sym (order_alike old row.tags texts same) ∙ ap (λ l. in_byte_order (l ++ row.tags)) before ∙ order_append (run_tags rows) row.tags
     ∙ ap in_byte_order (ap (λ l. run_tags rows ++ l) (sym (append-nil row.tags)) ∙ sym (tags_push rows row true runs))
 
 -- one that did not run adds none

@@ -2,17 +2,20 @@
 
 ghost use Rattle.std.specs.Prelude.{◌≡◌, ◌++◌, ◌||◌, OnOk};
 ghost use Rattle.std.specs.List.{flat_map, list_any};
-ghost use Rattle.std.specs.Option.{option_to_list};
+ghost use Rattle.std.specs.Option.{option_map, option_to_list};
 ghost use Rattle.outcome_fold.specs.Answers.{row_fails};
+ghost use Rattle.outcome_fold.specs.EndedParts.{row_of_part};
+ghost use Rattle.outcome_fold.specs.declared.row.Row.{Row as ARow};
+ghost use Rattle.sub_text.specs.Listed.{time_shown};
 ghost use Rattle.filter_cli.specs.Ls.{shown_line};
 
 use crate::loose_output::{put_foreign, put_loose};
 use crate::notes::NoteFilter;
-use outcome_fold::{Ended, Fold, Row};
+use outcome_fold::{Ended, EndedPart, Fold, Row, elapsed};
 use packet_codec::Packet;
 use std::alloc::Global;
-use sub_number::NoMemory;
-use sub_text::ls_line;
+use sub_number::{NoMemory, Text};
+use sub_text::seconds_text;
 
 /// What is listed.
 #[derive(Clone, Copy, Debug, PartialEq, Eq)]
@@ -65,9 +68,9 @@ impl NoteFilter for Ls {
     #[inline(always)]
     fn take(&mut self, packet: &Packet<'_>, text: &mut Vec<u8>) -> Result<(), NoMemory> {
         put_loose(self.listing.hidden, packet, text)?;
-        let row = self.fold.hear(packet)?;
-        put_row(self.listing, &row, text)?;
-        self.failed = failed_after(self.failed, &row);
+        let part = self.fold.hear_part(packet)?;
+        put_part(self.listing, &part, text)?;
+        self.failed = failed_after_part(self.failed, &part);
         Ok(())
     }
 
@@ -86,20 +89,47 @@ impl NoteFilter for Ls {
     fn let_go(self) {}
 }
 
-fn put_line(listing: Listing, row: &Row, text: &mut Vec<u8>) -> Result<(), NoMemory>
-    ensures { OnOk result (text.new.items ≡ text.old.items ++ shown_line listing row.now) }
+// The time behind an id, where times are asked for and it has one.
+fn put_time(nanos: Option<u64>, times: bool, text: &mut Vec<u8>) -> Result<(), NoMemory>
+    ensures { OnOk result (text.new.items ≡ text.old.items ++ time_shown nanos times) }
 {
-    if row.ended != Ended::Exists || listing.exists {
-        ls_line(row, listing.times, text)?;
+    let Some(nanos) = nanos else {
+        return Ok(());
+    };
+    if times {
+        text.push(b' ')?;
+        seconds_text(u128::from(nanos), text)?;
     }
     Ok(())
 }
 
-fn put_row(listing: Listing, row: &Option<Row>, text: &mut Vec<u8>) -> Result<(), NoMemory>
-    ensures { OnOk result (text.new.items ≡ text.old.items ++ flat_map (shown_line listing) (option_to_list row.now)) }
+// The line of a row of this id, which ended so and took so long.
+#[inline(always)]
+fn put_line(
+    listing: Listing,
+    id: &Text,
+    ended: Ended,
+    nanos: Option<u64>,
+    text: &mut Vec<u8>,
+) -> Result<(), NoMemory>
+    ensures { (row : ARow) → row.id ≡ id.now → row.ended ≡ ended → row.nanos ≡ nanos → OnOk result (text.new.items ≡ text.old.items ++ shown_line listing row) }
 {
-    if let Some(row) = row {
-        put_line(listing, row, text)?;
+    if ended != Ended::Exists || listing.exists {
+        text.extend_from_slice(id.bytes())?;
+        put_time(nanos, listing.times, text)?;
+        text.push(b'\n')?;
+    }
+    Ok(())
+}
+
+// The line of the part of a test that has ended. No row is made of it.
+#[inline(always)]
+fn put_part(listing: Listing, part: &Option<EndedPart>, text: &mut Vec<u8>) -> Result<(), NoMemory>
+    ensures { OnOk result (text.new.items ≡ text.old.items ++ flat_map (shown_line listing) (option_to_list (option_map row_of_part part.now))) }
+{
+    if let Some(part) = part {
+        let nanos = elapsed(part.started.start, part.end);
+        put_line(listing, &part.key.id, part.ended, nanos, text)?;
     }
     Ok(())
 }
@@ -108,9 +138,20 @@ fn put_rows(listing: Listing, rows: &[Row], text: &mut Vec<u8>) -> Result<(), No
     ensures { OnOk result (text.new.items ≡ text.old.items ++ flat_map (shown_line listing) rows.now) }
 {
     for row in rows {
-        put_line(listing, row, text)?;
+        put_line(listing, &row.id, row.ended, row.nanos, text)?;
     }
     Ok(())
+}
+
+// Whether a test failed, this part included.
+#[inline(always)]
+fn failed_after_part(failed: bool, part: &Option<EndedPart>) -> bool
+    ensures { result ≡ (failed || list_any row_fails (option_to_list (option_map row_of_part part.now))) }
+{
+    match part {
+        Some(part) => failed || part.ended.fails(),
+        None => failed,
+    }
 }
 
 // Whether a test failed, this row included.

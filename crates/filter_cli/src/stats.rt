@@ -1,14 +1,15 @@
 //! The counts of a stream.
 
 ghost use Rattle.std.specs.Prelude.{◌≡◌, List, ◌++◌, OnOk};
-ghost use Rattle.std.specs.Option.{option_to_list};
+ghost use Rattle.std.specs.Option.{option_map, option_to_list};
+ghost use Rattle.outcome_fold.specs.EndedParts.{row_of_part};
 ghost use Rattle.outcome_fold.specs.declared.row.Row.{Row as ARow};
 ghost use Rattle.filter_cli.specs.Tally.{HasTallied};
 
 use crate::loose_output::{put_foreign, put_loose};
 use crate::notes::NoteFilter;
 use crate::tally::Tally;
-use outcome_fold::{Fold, Row};
+use outcome_fold::{EndedPart, Fold};
 use packet_codec::Packet;
 use std::alloc::Global;
 use sub_number::NoMemory;
@@ -63,8 +64,8 @@ impl NoteFilter for Stats {
     #[inline(always)]
     fn take(&mut self, packet: &Packet<'_>, text: &mut Vec<u8>) -> Result<(), NoMemory> {
         put_loose(self.counting.hidden, packet, text)?;
-        let row = self.fold.hear(packet)?;
-        count_row(&mut self.tally, &row)?;
+        let part = self.fold.hear_part(packet)?;
+        count_part(&mut self.tally, &part)?;
         Ok(())
     }
 
@@ -91,12 +92,13 @@ impl NoteFilter for Stats {
     fn let_go(self) {}
 }
 
-// Counts the row, where there is one.
-fn count_row(tally: &mut Tally, row: &Option<Row>) -> Result<(), NoMemory>
-    ensures { (rows : List ARow) → HasTallied tally.old rows → OnOk result (HasTallied tally.new (rows ++ option_to_list row.now)) }
+// Counts the part of a test that has ended, where there is one.
+#[inline(always)]
+fn count_part(tally: &mut Tally, part: &Option<EndedPart>) -> Result<(), NoMemory>
+    ensures { (rows : List ARow) → HasTallied tally.old rows → OnOk result (HasTallied tally.new (rows ++ option_to_list (option_map row_of_part part.now))) }
 {
-    if let Some(row) = row {
-        tally.add(row)?;
+    if let Some(part) = part {
+        tally.add_part(part)?;
     }
     Ok(())
 }

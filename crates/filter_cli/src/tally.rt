@@ -2,13 +2,15 @@
 
 ghost use Rattle.std.specs.Prelude.{◌≡◌, List, [], ◌∷◌, ◌++◌, count_by, OnOk};
 ghost use Rattle.outcome_fold.specs.declared.row.Row.{Row as ARow};
-ghost use Rattle.outcome_fold.specs.Answers.{is_run, seen_tags_of};
+ghost use Rattle.outcome_fold.specs.Answers.{seen_tags_of};
+ghost use Rattle.outcome_fold.specs.EndedParts.{row_of_part};
+ghost use Rattle.outcome_fold.specs.Order.{in_byte_order};
 ghost use Rattle.filter_cli.specs.Tally as spec;
 ghost use Rattle.filter_cli.specs.Tally.{HasTallied, AreCounts};
 
-use outcome_fold::{Counts, Ended, Row, TextSet};
+use outcome_fold::{Counts, Ended, EndedPart, Row, TextSet};
 use std::alloc::Global;
-use sub_number::NoMemory;
+use sub_number::{NoMemory, Text};
 
 /// How the tests of some rows ended, and the tags of those that ran. Nothing else is kept of them, and of each test one
 /// byte.
@@ -48,21 +50,14 @@ fn number_of(kind: Kind, ended: &[Ended]) -> u64
     ended.iter().filter(|ended| is_of(kind, **ended)).count() as u64
 }
 
-// Whether the test of the row ran.
-fn has_run(row: &Row) -> bool
-    ensures { result ≡ is_run row.now }
+// Adds the tags of a test that ended so, where it ran.
+fn add_tags(tags: &mut TextSet, ended: Ended, texts: &[Text]) -> Result<(), NoMemory>
+    ensures { (rows : List ARow) (row : ARow) → row.ended ≡ ended → in_byte_order row.tags ≡ in_byte_order texts.now → tags.old ≡ seen_tags_of rows → OnOk result (tags.new ≡ seen_tags_of (rows ++ row ∷ [])) }
 {
-    is_of(Kind::Run, row.ended)
-}
-
-// Adds the tags of the row's test, where it ran.
-fn add_tags(tags: &mut TextSet, row: &Row) -> Result<(), NoMemory>
-    ensures { (rows : List ARow) → tags.old ≡ seen_tags_of rows → OnOk result (tags.new ≡ seen_tags_of (rows ++ row.now ∷ [])) }
-{
-    if !has_run(row) {
+    if !is_of(Kind::Run, ended) {
         return Ok(());
     }
-    tags.insert_all(row.tags.list())?;
+    tags.insert_all(texts)?;
     Ok(())
 }
 
@@ -77,15 +72,31 @@ impl Tally {
         }
     }
 
+    // Counts one test more, which ended so and has these tags.
+    fn count(&mut self, ended: Ended, texts: &[Text]) -> Result<(), NoMemory>
+        ensures { (rows : List ARow) (row : ARow) → row.ended ≡ ended → in_byte_order row.tags ≡ in_byte_order texts.now → HasTallied self.old rows → OnOk result (HasTallied self.new (rows ++ row ∷ [])) }
+    {
+        self.ended.push(ended)?;
+        add_tags(&mut self.tags, ended, texts)?;
+        Ok(())
+    }
+
     /// Counts one row more.
     ///
     /// After `NoMemory` nothing is known of what was counted.
     pub(crate) fn add(&mut self, row: &Row) -> Result<(), NoMemory>
         ensures { (rows : List ARow) → HasTallied self.old rows → OnOk result (HasTallied self.new (rows ++ row.now ∷ [])) }
     {
-        self.ended.push(row.ended)?;
-        add_tags(&mut self.tags, row)?;
-        Ok(())
+        self.count(row.ended, row.tags.list())
+    }
+
+    /// Counts the row of this part, which is not made.
+    ///
+    /// After `NoMemory` nothing is known of what was counted.
+    pub(crate) fn add_part(&mut self, part: &EndedPart) -> Result<(), NoMemory>
+        ensures { (rows : List ARow) → HasTallied self.old rows → OnOk result (HasTallied self.new (rows ++ row_of_part part.now ∷ [])) }
+    {
+        self.count(part.ended, part.started.tags.list())
     }
 
     /// Counts these rows too.

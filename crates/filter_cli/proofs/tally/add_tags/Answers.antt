@@ -1,15 +1,14 @@
-use Rattle.std.proofs.Common.{◌≡◌, true, false, ap, ◌∙◌, ◌++◌, arith}
-use Rattle.outcome_fold.specs.Order.{in_byte_order}
-use Rattle.outcome_fold.specs.Answers.{is_run}
+use Rattle.std.proofs.Common.{◌≡◌, true, false, ap, ◌∙◌, not, arith}
+use Rattle.outcome_fold.specs.Answers.{is_existing}
 use Rattle.filter_cli.proofs.TallyLemmas.{tags_more, tags_same}
 use Rattle.filter_cli.proofs.tally.add_tags.Goals as goal
 
-pub returns-then-not-has_run : goal.returns-then-not-has_run
-returns-then-not-has_run c = λ rows before.
-    let other : is_run c.args.row.now ≡ false = grind (arith, c.if-not-has_run.true, c.has_run.ensures) in
-    tags_same rows c.args.row.now c.args.tags.now before other
+pub returns-then-not-is_of : goal.returns-then-not-is_of
+returns-then-not-is_of c = λ rows row how same before.
+    let other : not (is_existing c.args.ended) ≡ false = grind (arith, c.if-not-is_of.true, c.is_of.ensures) in
+    tags_same rows row c.args.tags.now before (ap (λ e. not (is_existing e)) how ∙ other)
 
 pub returns : goal.returns
-returns c = λ rows before.
-    let runs : is_run c.args.row.now ≡ true = grind (arith, c.if-not-has_run.false, c.has_run.ensures) in
-    tags_more rows c.args.row.now c.args.tags.now _ before runs (c.in_ok-insert_all.ensures ∙ ap (λ l. in_byte_order (c.args.tags.now ++ l)) c.list.ensures)
+returns c = λ rows row how same before.
+    let runs : not (is_existing c.args.ended) ≡ true = grind (arith, c.if-not-is_of.false, c.is_of.ensures) in
+    tags_more rows row c.args.texts.now c.args.tags.now _ same before (ap (λ e. not (is_existing e)) how ∙ runs) c.in_ok-insert_all.ensures
