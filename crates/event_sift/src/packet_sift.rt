@@ -70,12 +70,12 @@ impl<'a, P: Predicate + Drop> PacketSift<'a, P> {
     fn hear_last(
         &mut self,
         packet: &Packet<'_>,
-        row: Option<Row>,
+        row: &Option<Row>,
         out: &mut Vec<u8>,
     ) -> Result<(), NoMemory>
         requires faithful { P.rules (packet_predicate_of self.old) ≡ packet_rules_of self.old }
-        ensures released { (seen : List AnEvent) (e : AnEvent) (last : AHeldTest) → SpellsEvent packet.now e → row ≡ completed_row seen e → IsNext self.old.held seen e last → OnOk result (out.new.items ≡ out.old.items ++ packets_of (released (keeps (packet_rules_of self.old)) seen e)) }
-        ensures held { (seen : List AnEvent) (e : AnEvent) (last : AHeldTest) → SpellsEvent packet.now e → row ≡ completed_row seen e → IsNext self.old.held seen e last → OnOk result (held_packets_in self.new.held ≡ open_packets (seen ++ e ∷ [])) }
+        ensures released { (seen : List AnEvent) (e : AnEvent) (last : AHeldTest) → SpellsEvent packet.now e → row.now ≡ completed_row seen e → IsNext self.old.held seen e last → OnOk result (out.new.items ≡ out.old.items ++ packets_of (released (keeps (packet_rules_of self.old)) seen e)) }
+        ensures held { (seen : List AnEvent) (e : AnEvent) (last : AHeldTest) → SpellsEvent packet.now e → row.now ≡ completed_row seen e → IsNext self.old.held seen e last → OnOk result (held_packets_in self.new.held ≡ open_packets (seen ++ e ∷ [])) }
         ensures fold { self.new.fold ≡ self.old.fold }
         ensures rules { packet_rules_of self.new ≡ packet_rules_of self.old }
         ensures predicate { P.rules (packet_predicate_of self.new) ≡ P.rules (packet_predicate_of self.old) }
@@ -83,7 +83,7 @@ impl<'a, P: Predicate + Drop> PacketSift<'a, P> {
         let Some(row) = row else {
             return self.held.go_on(packet);
         };
-        let kept = self.is_kept(&row)?;
+        let kept = self.is_kept(row)?;
         self.held.finish(packet, kept, out)
     }
 
@@ -92,12 +92,12 @@ impl<'a, P: Predicate + Drop> PacketSift<'a, P> {
     fn hear_other(
         &mut self,
         packet: &Packet<'_>,
-        row: Option<Row>,
+        row: &Option<Row>,
         out: &mut Vec<u8>,
     ) -> Result<(), NoMemory>
         requires faithful { P.rules (packet_predicate_of self.old) ≡ packet_rules_of self.old }
-        ensures released { (seen : List AnEvent) (e : AnEvent) → SpellsEvent packet.now e → row ≡ completed_row seen e → held_packets_in self.old.held ≡ open_packets seen → OnOk result (out.new.items ≡ out.old.items ++ packets_of (released (keeps (packet_rules_of self.old)) seen e)) }
-        ensures held { (seen : List AnEvent) (e : AnEvent) → SpellsEvent packet.now e → row ≡ completed_row seen e → held_packets_in self.old.held ≡ open_packets seen → OnOk result (held_packets_in self.new.held ≡ open_packets (seen ++ e ∷ [])) }
+        ensures released { (seen : List AnEvent) (e : AnEvent) → SpellsEvent packet.now e → row.now ≡ completed_row seen e → held_packets_in self.old.held ≡ open_packets seen → OnOk result (out.new.items ≡ out.old.items ++ packets_of (released (keeps (packet_rules_of self.old)) seen e)) }
+        ensures held { (seen : List AnEvent) (e : AnEvent) → SpellsEvent packet.now e → row.now ≡ completed_row seen e → held_packets_in self.old.held ≡ open_packets seen → OnOk result (held_packets_in self.new.held ≡ open_packets (seen ++ e ∷ [])) }
         ensures fold { self.new.fold ≡ self.old.fold }
         ensures rules { packet_rules_of self.new ≡ packet_rules_of self.old }
         ensures predicate { P.rules (packet_predicate_of self.new) ≡ P.rules (packet_predicate_of self.old) }
@@ -124,9 +124,9 @@ impl<'a, P: Predicate + Drop> PacketSift<'a, P> {
     {
         let row = self.fold.hear(packet)?;
         if self.held.holds(packet) {
-            return self.hear_last(packet, row, out);
+            return self.hear_last(packet, &row, out);
         }
-        self.hear_other(packet, row, out)
+        self.hear_other(packet, &row, out)
     }
 
     // Appends the packets of the row's open test, where it is kept.
