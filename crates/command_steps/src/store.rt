@@ -1,7 +1,8 @@
 //! The steps of the folder, and why each refuses.
 
-ghost use Rattle.std.specs.Prelude.{◌≡◌, ◌+◌, ◌<◌, ◌++◌, ◌∷◌, [], length, OnOk};
+ghost use Rattle.std.specs.Prelude.{◌≡◌, ◌+◌, ◌<◌, ◌++◌, ◌∷◌, [], length, IfErr, OnOk};
 ghost use Rattle.edge_io.specs.Steps.{HasDraft};
+ghost use Rattle.run_shelf.specs.Clocks.{TicksBy, TicksToPlace};
 ghost use Rattle.run_shelf.specs.Holds.{kinds_of, HasRoom, FitsWhereTold};
 ghost use Rattle.run_shelf.specs.Looking.{base_calls};
 ghost use Rattle.run_shelf.specs.Outcomes.{TicksUpTo};
@@ -170,8 +171,8 @@ pub fn start_run<H: Shelf>(shelf: &mut H) -> Result<(), KeepFault>
     }
 }
 
-/// Keeps what was added as the run behind all others, in three calls of the folder at most, and counts it among what was
-/// found.
+/// Keeps what was added as the run behind all others, in three calls of the folder, and counts it among what was found. Where
+/// one of them failed none was made behind it, so the clock tells which one did.
 pub fn keep_run<H: Shelf>(shelf: &mut H, found: &mut Found, partial: bool) -> Result<(), KeepFault>
     requires few { length (kinds_of found.old) < most_runs }
     requires room { HasRoom found.old }
@@ -181,6 +182,8 @@ pub fn keep_run<H: Shelf>(shelf: &mut H, found: &mut Found, partial: bool) -> Re
     ensures kinds { OnOk result (kinds_of found.new ≡ kinds_of found.old ++ partial ∷ []) }
     ensures fits { OnOk result (FitsWhereTold (kinds_of found.new) (H.seen shelf.new).told) }
     ensures time { TicksUpTo 3 (H.clock shelf.old) (H.clock shelf.new) }
+    ensures all_calls { OnOk result (TicksBy 3 (H.clock shelf.old) (H.clock shelf.new)) }
+    ensures failed_call { IfErr result (λ fault. TicksToPlace fault.call (H.clock shelf.old) (H.clock shelf.new)) }
 {
     match finish_run(shelf, found, partial) {
         Ok(_) => Ok(()),
