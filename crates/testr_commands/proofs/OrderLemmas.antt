@@ -1,6 +1,6 @@
 -- In which order jobs are started where a project asks for instances.
 use Rattle.std.proofs.Common.{◌≡◌, ◌⊎◌, inl, inr, ℕ, zero, suc, pos, Bool, true, false, true≢false, Option, None, Some, Result, Ok, Err, List, [], ◌∷◌, ◌++◌, refl, sym, ap, subst, ◌∙◌, append_assoc, append-nil}
-use Rattle.std.specs.Prelude.{⊤, ℤ, is_some, option_map}
+use Rattle.std.specs.Prelude.{ℤ, is_some, option_map}
 use Rattle.std.specs.Fmt.{decimal}
 use Rattle.edge_io.specs.Children.{Output}
 use Rattle.edge_io.specs.Disk.{Files}
@@ -18,7 +18,7 @@ use Rattle.suite_causes.specs.declared.cause_search.SearchFault.TheVariants as s
 use Rattle.suite_causes.specs.declared.suspects.Suspect.{Suspect}
 use Rattle.suite_plan.specs.Calling.{CallsOut, CallsSo, HasCallCause}
 use Rattle.suite_plan.specs.Children.{StartsFor, IsBroken}
-use Rattle.suite_plan.specs.Provisioning.{EndsWithZero, EndsOtherwise, NamesNone, NamesSome, Provisions, ProvisionsSo, HasProvisionCause, StartsProvisioning, StartsToMeet, Disposes, HasDisposeFault}
+use Rattle.suite_plan.specs.Provisioning.{EndsWithZero, EndsUnheard, EndsOtherwise, NamesNone, NamesSome, Provisions, ProvisionsSo, HasProvisionCause, StartsProvisioning, StartsToMeet, Disposes, HasDisposeFault}
 use Rattle.suite_plan.specs.declared.count_command.CallRefusal.{CallRefusal}
 use Rattle.suite_plan.specs.declared.count_command.CallRefusal.TheVariants as call
 use Rattle.suite_plan.specs.declared.disposing.DisposeFault.{DisposeFault}
@@ -42,15 +42,13 @@ use Rattle.worker_lane.specs.declared.lot.Lot.{Lot}
 use Rattle.command_steps.specs.Causes.{FindsAmong, FindsCauses, FindsEach, candidates_in}
 use Rattle.command_steps.specs.Instances.{DisposesOf, disposal_behind, provided}
 use Rattle.command_steps.specs.Outside.{Outside, Work, work_of}
-use Rattle.command_steps.specs.Refusals.{exit_status}
 use Rattle.command_steps.specs.Selecting.{CountsWorkers, Planned, UsesAsked, UsesCalled}
 use Rattle.command_steps.specs.Steps.{Step, Then, stops, goes_on, Gives}
 use Rattle.command_steps.specs.Working.{Works}
 use Rattle.command_steps.specs.declared.answer.Refusal.{Refusal}
-use Rattle.command_steps.specs.declared.answer.Refusal.TheVariants.{Provision}
 use Rattle.command_steps.specs.declared.instances.Provided.{Provided}
 use Rattle.testr_commands.specs.Elsewhere.{AsksForInstances, CountsFor, Elsewhere, GoesElsewhere, GoesProvided, HasProject, ReadiesIf, StopsUnprovided, plain}
-use Rattle.testr_commands.specs.JobOrder.{HasJobOrder, JobCourse, MayStartJob, StartsJob, StartsMore, StartsUnlessFailed, in_turn, not_provisioned, not_well}
+use Rattle.testr_commands.specs.JobOrder.{EndsNaming, HasJobOrder, JobCourse, MayStartJob, StartsJob, StartsMore, StartsUnlessFailed, in_turn, not_provisioned, not_well}
 use Rattle.testr_commands.specs.Program.{Promises}
 use Rattle.testr_commands.specs.RunSuite.{ListsSuite, RunsSuite, TellsAndFinds, TellsRun}
 use Rattle.testr_commands.specs.Spoken.{Behind, Saying, without_errors}
@@ -322,21 +320,18 @@ ready_spawner : (force : Bool) (before ready : Outside) → ReadiesIf force befo
 ready_spawner true before ready is = ap (λ (w : Outside). w.spawner) is.rest
 ready_spawner false before ready is = ap (λ (w : Outside). w.spawner) is
 
-module _ (settings : Settings) (workers answer : ℕ) (a ready b : Seen Spawning) (errors told : Seen (List ℕ)) where
+module _ (settings : Settings) (workers : ℕ) (a ready b : Seen Spawning) (errors told : Seen (List ℕ)) where
   abbrev Course : Type 0
-  Course = JobCourse settings workers a.told b answer
-
-  abbrev Late : Output → Type 0
-  Late o = o.finish ≡ Exit (pos 0) → answer ≡ 5
+  Course = JobCourse settings workers a.told b
 
   -- the refusal came behind a provisioning that ended with 0
   ended : (disposal : Option Job) → Goes a.told ready.told (StartsProvisioning settings workers EndsWithZero) → disposal ≡ dispose_job_of settings → DisposesOf disposal ready b errors told → Course
   ended disposal starts is disposes = in_turn (record {
+    names = None;
     provisioned = ready.told;
-    provisions = starts;
+    provisions = goes_weaker a.told ready.told (StartsProvisioning settings workers EndsWithZero) (StartsProvisioning settings workers (EndsNaming None)) starts (provision_weaker settings workers EndsWithZero (EndsNaming None) (λ o zero. (zero, tt)));
     ended = ready;
     does = goes_same ready.told ready.told refl;
-    names = None;
     disposes = subst (λ (d : Option Job). StartsUnlessFailed d ready b) is (ends_so disposal ready b errors told disposes);
   })
 
@@ -346,39 +341,36 @@ module _ (settings : Settings) (workers answer : ℕ) (a ready b : Seen Spawning
       let rest : b ≡ ready = ends_so None ready b errors told (subst (λ (d : Option Job). DisposesOf d ready b errors told) none disposes) in
       subst (λ (w : Seen Spawning). Goes a.told w.told R) (sym rest) goes
 
-  refused_so : (refusal : ProvisionRefusal) (disposal : Option Job) → (refusal ≡ provision.NoMemory → answer ≡ 5) → Goes a.told ready.told (HasProvisionCause settings workers refusal) → disposal ≡ disposal_behind settings refusal → DisposesOf disposal ready b errors told → Course
-  refused_so provision.Spawn disposal memory cause is disposes = not_provisioned (left_so disposal Stays (goes_weaker a.told ready.told (HasProvisionCause settings workers provision.Spawn) Stays cause (λ s t why. why.1)) is disposes)
-  refused_so provision.Child disposal memory cause is disposes =
-      not_well (left_so disposal (StartsProvisioning settings workers Late)
-      (goes_weaker a.told ready.told (HasProvisionCause settings workers provision.Child) (StartsProvisioning settings workers Late) cause
-      (provision_weaker settings workers (λ o. IsBroken o.finish) Late (λ o broken well. absurd (not_broken o broken well)))) is disposes)
-  refused_so (provision.Failed status said) disposal memory cause is disposes =
-      not_well (left_so disposal (StartsProvisioning settings workers Late)
-      (goes_weaker a.told ready.told (HasProvisionCause settings workers (provision.Failed status said)) (StartsProvisioning settings workers Late) cause
-      (provision_weaker settings workers (EndsOtherwise status said) Late (λ o other well. absurd (other.other (same_status o status other.ended well))))) is disposes)
-  refused_so provision.NoneNamed disposal memory cause is disposes =
+  refused_so : (refusal : ProvisionRefusal) (disposal : Option Job) → Goes a.told ready.told (HasProvisionCause settings workers refusal) → disposal ≡ disposal_behind settings refusal → DisposesOf disposal ready b errors told → Course
+  refused_so provision.Spawn disposal cause is disposes = not_provisioned (left_so disposal Stays (goes_weaker a.told ready.told (HasProvisionCause settings workers provision.Spawn) Stays cause (λ s t why. why.1)) is disposes)
+  refused_so provision.Child disposal cause is disposes =
+      not_well (left_so disposal (StartsProvisioning settings workers EndsUnheard)
+      (goes_weaker a.told ready.told (HasProvisionCause settings workers provision.Child) (StartsProvisioning settings workers EndsUnheard) cause
+      (provision_weaker settings workers (λ o. IsBroken o.finish) EndsUnheard (λ o broken. inl (λ well. not_broken o broken well)))) is disposes)
+  refused_so (provision.Failed status said) disposal cause is disposes =
+      not_well (left_so disposal (StartsProvisioning settings workers EndsUnheard)
+      (goes_weaker a.told ready.told (HasProvisionCause settings workers (provision.Failed status said)) (StartsProvisioning settings workers EndsUnheard) cause
+      (provision_weaker settings workers (EndsOtherwise status said) EndsUnheard (λ o other. inl (λ well. other.other (same_status o status other.ended well))))) is disposes)
+  refused_so provision.NoneNamed disposal cause is disposes =
       ended disposal
       (goes_weaker a.told ready.told (HasProvisionCause settings workers provision.NoneNamed) (StartsProvisioning settings workers EndsWithZero) cause
       (provision_weaker settings workers NamesNone EndsWithZero (λ o none. none.ended))) is disposes
-  refused_so provision.NamesLost disposal memory cause is disposes = ended disposal cause is disposes
-  refused_so provision.NoMemory disposal memory cause is disposes =
-      elim (goes_one a.told b.told Stays (StartsProvisioning settings workers (λ output. ⊤)) (left_so disposal (HasProvisionCause settings workers provision.NoMemory) cause is disposes)) [
+  refused_so provision.NamesLost disposal cause is disposes = ended disposal cause is disposes
+  refused_so provision.NoMemory disposal cause is disposes =
+      elim (goes_one a.told b.told Stays (StartsProvisioning settings workers EndsUnheard) (left_so disposal (HasProvisionCause settings workers provision.NoMemory) cause is disposes)) [
         | inl stays ↦ not_provisioned stays
-        | inr starts ↦ not_well (goes_weaker a.told b.told (StartsProvisioning settings workers (λ output. ⊤)) (StartsProvisioning settings workers Late) starts (provision_weaker settings workers (λ output. ⊤) Late (λ o any well. memory refl)))
+        | inr starts ↦ not_well starts
       ]
 
 -- no instance was had
-unprovided_so : (settings : Settings) (workers : ℕ) (before after : Outside) (answer : ℕ) → StopsUnprovided settings workers before after answer → JobCourse settings workers before.spawner.told after.spawner answer
+unprovided_so : (settings : Settings) (workers : ℕ) (before after : Outside) (answer : ℕ) → StopsUnprovided settings workers before after answer → JobCourse settings workers before.spawner.told after.spawner
 unprovided_so settings workers before after answer stop = elim stop.provides.refused [
-  | inl refuses ↦ refused_so settings workers answer before.spawner stop.ready after.spawner stop.stops.line after.errors stop.fault.refusal stop.fault.disposal memory refuses.provisions.refused refuses.disposal_is stop.stops.disposes
-  | inr short ↦ ended settings workers answer before.spawner stop.ready after.spawner stop.stops.line after.errors stop.fault.disposal
+  | inl refuses ↦ refused_so settings workers before.spawner stop.ready after.spawner stop.stops.line after.errors stop.fault.refusal stop.fault.disposal refuses.provisions.refused refuses.disposal_is stop.stops.disposes
+  | inr short ↦ ended settings workers before.spawner stop.ready after.spawner stop.stops.line after.errors stop.fault.disposal
       (goes_weaker before.spawner.told stop.ready.told (ProvisionsSo settings workers (Some short.names)) (StartsProvisioning settings workers EndsWithZero) short.provisions.told
       (provision_weaker settings workers (NamesSome short.names) EndsWithZero (λ o some. some.ended)))
       (short.disposal_is ∙ ap (disposal_behind settings) short.lost) stop.stops.disposes
 ]
-  where
-    memory : stop.fault.refusal ≡ provision.NoMemory → answer ≡ 5
-    memory is = stop.stops.tells.code ∙ ap (λ (r : ProvisionRefusal). exit_status (Err (Provision r))) is
 
 -- there is a provision job
 job_there : (settings : Settings) (workers : ℕ) → asks_instances settings ≡ true → provision_job_of settings workers ≡ None → ⊥
@@ -389,19 +381,19 @@ job_there settings workers asks none = by settings.provision asks none
     by (Some text) asks none = cc
 
 -- on instances
-provided_so : (folder : List ℕ) (command : Command) (settings : Settings) (workers : ℕ) (before after : Outside) (answer : ℕ) → HasProject command.verb → asks_instances settings ≡ true → GoesProvided folder command settings workers before after answer → JobCourse settings workers before.spawner.told after.spawner answer
+provided_so : (folder : List ℕ) (command : Command) (settings : Settings) (workers : ℕ) (before after : Outside) (answer : ℕ) → HasProject command.verb → asks_instances settings ≡ true → GoesProvided folder command settings workers before after answer → JobCourse settings workers before.spawner.told after.spawner
 provided_so folder command settings workers before after answer has asks goes = by goes.provides.given.names goes.provides.given.provisions goes.provides.given.given_is
   where
-    by : (names : Option (List (List ℕ))) → Provisions settings workers before.spawner goes.ready (Ok names) → goes.given ≡ provided settings workers names → JobCourse settings workers before.spawner.told after.spawner answer
+    by : (names : Option (List (List ℕ))) → Provisions settings workers before.spawner goes.ready (Ok names) → goes.given ≡ provided settings workers names → JobCourse settings workers before.spawner.told after.spawner
     by None provisions is = absurd (job_there settings workers asks (provisions.jobless refl))
     by (Some names) provisions is = in_turn (record {
+      names = Some names;
       provisioned = goes.ready.told;
       provisions =
-          goes_weaker before.spawner.told goes.ready.told (ProvisionsSo settings workers (Some names)) (StartsProvisioning settings workers EndsWithZero) provisions.told
-          (provision_weaker settings workers (NamesSome names) EndsWithZero (λ o some. some.ended));
+          goes_weaker before.spawner.told goes.ready.told (ProvisionsSo settings workers (Some names)) (StartsProvisioning settings workers (EndsNaming (Some names))) provisions.told
+          (provision_weaker settings workers (NamesSome names) (EndsNaming (Some names)) (λ o some. (some.ended, some.names_are)));
       ended = goes.goes.ended.spawner;
       does = there_adds folder goes.given.workers goes.given.conf.instances command command.verb has (record before { spawner = goes.ready }) goes.goes.ended answer goes.goes.rest;
-      names = Some names;
       disposes =
           subst (λ (d : Option Job). StartsUnlessFailed d goes.goes.ended.spawner after.spawner) (ap (λ (g : Provided). g.disposal) is)
           (ends_so goes.given.disposal goes.goes.ended.spawner after.spawner goes.goes.ended.errors after.errors goes.goes.disposes);
@@ -410,7 +402,7 @@ provided_so folder command settings workers before after answer has asks goes = 
 -- ---- the whole call
 
 module _ (folder : List ℕ) (command : Command) (before after : Outside) (answer : ℕ) where
-  elsewhere_so : GoesElsewhere folder command before after answer → HasJobOrder folder command before after answer
+  elsewhere_so : GoesElsewhere folder command before after answer → HasJobOrder folder command before after
   elsewhere_so (inl stop) = record {
     settings = stop.settings;
     asks = stop.asks;
@@ -432,9 +424,9 @@ module _ (folder : List ℕ) (command : Command) (before after : Outside) (answe
   }
 
 -- what stands in front starts nothing
-pub jobs_in_order : (folder : List ℕ) (command : Command) (before after : Outside) (answer : ℕ) → Elsewhere folder command before after answer → HasJobOrder folder command before after answer
+pub jobs_in_order : (folder : List ℕ) (command : Command) (before after : Outside) (answer : ℕ) → Elsewhere folder command before after answer → HasJobOrder folder command before after
 jobs_in_order folder command before after answer there =
-    let order : HasJobOrder folder command there.goes.ready after answer = elsewhere_so folder command there.goes.ready after answer there.goes.goes in
+    let order : HasJobOrder folder command there.goes.ready after = elsewhere_so folder command there.goes.ready after answer there.goes.goes in
     let front : Outside = record before { errors = there.told } in
     let site : there.goes.ready.site ≡ before.site = ready_site (forces folder command) front there.goes.ready there.goes.is_ready in
     let spawner : there.goes.ready.spawner ≡ before.spawner = ready_spawner (forces folder command) front there.goes.ready there.goes.is_ready in

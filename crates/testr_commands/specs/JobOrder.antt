@@ -1,14 +1,13 @@
 -- In which order jobs are started where a project asks for instances (docs/FORMATS.md, "Instances").
-use Rattle.std.specs.Prelude.{◌≡◌, ◌⊎◌, ℕ, pos, Option, Some, None, List, ◌++◌}
+use Rattle.std.specs.Prelude.{◌≡◌, ◌⊎◌, ℕ, Option, Some, None, IfSome, List, ◌++◌}
 use Rattle.edge_io.specs.Causes.{Rose}
 use Rattle.edge_io.specs.Children.{Output}
 use Rattle.edge_io.specs.Seen.{Seen}
 use Rattle.edge_io.specs.Spawners.{Spawning}
 use Rattle.edge_io.specs.Steps.{Goes, Stays}
-use Rattle.edge_io.specs.declared.child.Finish.TheVariants.{Exit}
 use Rattle.edge_io.specs.declared.job.Job.{Job}
 use Rattle.suite_plan.specs.Children.{StartsFor}
-use Rattle.suite_plan.specs.Provisioning.{EndsWithZero, StartsProvisioning}
+use Rattle.suite_plan.specs.Provisioning.{EndsWithZero, EndsUnheard, StartsProvisioning, named_in}
 use Rattle.testr_conf.specs.Jobs.{count_job_of, dispose_job_of}
 use Rattle.testr_conf.specs.Settings.{Settings, on_instances}
 use Rattle.testr_words.specs.declared.command.Command.{Command}
@@ -45,29 +44,33 @@ abbrev pub settings_with : Option (List (List ℕ)) → Settings → Settings
 settings_with None settings = settings
 settings_with (Some names) settings = on_instances names settings
 
+-- the provision job ended with 0, and these are the instances that it named, where they are told
+abbrev pub EndsNaming : Option (List (List ℕ)) → Output → Type 0
+EndsNaming names output = EndsWithZero output × IfSome names (λ named. named ≡ named_in output.bytes)
+
 -- The provision job was started and ended with 0. Behind it jobs of the command were started, or none; and behind all of them, where
--- there is one, the dispose job, once.
+-- there is one, the dispose job of the instances that were told, or of none.
 pub record StartsInTurn (settings : Settings) (workers : ℕ) (counted : Option Spawning) (after : Seen Spawning) : Type 0 where
+  pub names : Option (List (List ℕ))
   pub provisioned : Option Spawning
-  pub provisions : Goes counted provisioned (StartsProvisioning settings workers EndsWithZero)
+  pub provisions : Goes counted provisioned (StartsProvisioning settings workers (EndsNaming names))
   pub ended : Seen Spawning
   pub does : Goes provisioned ended.told StartsMore
-  pub names : Option (List (List ℕ))
   pub disposes : StartsUnlessFailed (dispose_job_of (settings_with names settings)) ended after
 
--- What was started behind the job that counts the workers. Where the provision job did not end with 0, or was stopped for want of
--- memory, it is the last.
-pub data JobCourse (settings : Settings) (workers : ℕ) (counted : Option Spawning) (after : Seen Spawning) (answer : ℕ) : Type 0 where
-  not_provisioned : Goes counted after.told Stays → JobCourse settings workers counted after answer
-  not_well : Goes counted after.told (StartsProvisioning settings workers (λ output. output.finish ≡ Exit (pos 0) → answer ≡ 5)) → JobCourse settings workers counted after answer
-  in_turn : StartsInTurn settings workers counted after → JobCourse settings workers counted after answer
+-- What was started behind the job that counts the workers. Where the provision job did not end with 0, or has an output that is
+-- longer than can be counted, it is the last.
+pub data JobCourse (settings : Settings) (workers : ℕ) (counted : Option Spawning) (after : Seen Spawning) : Type 0 where
+  not_provisioned : Goes counted after.told Stays → JobCourse settings workers counted after
+  not_well : Goes counted after.told (StartsProvisioning settings workers EndsUnheard) → JobCourse settings workers counted after
+  in_turn : StartsInTurn settings workers counted after → JobCourse settings workers counted after
 
 -- The jobs that were started by a call whose project asks for instances, in order: the one that counts the workers, or none, and
 -- then those.
-pub record HasJobOrder (folder : List ℕ) (command : Command) (before after : Outside) (answer : ℕ) : Type 0 where
+pub record HasJobOrder (folder : List ℕ) (command : Command) (before after : Outside) : Type 0 where
   pub settings : Settings
   pub asks : AsksForInstances folder command before.site settings
   pub workers : ℕ
   pub counted : Option Spawning
   pub counts : Goes before.spawner.told counted (MayStartJob (count_job_of settings))
-  pub course : JobCourse settings workers counted after.spawner answer
+  pub course : JobCourse settings workers counted after.spawner

@@ -104,9 +104,10 @@ pub fn tests_run_elsewhere_where_asked()
 {}
 
 /// A call whose project asks for instances starts its jobs in this order: at most the one that counts the workers; the provision
-/// job; those of the command; and behind all of them the dispose job, once, exactly where the provision job ended with 0, unless
-/// there is none or its start failed. Where the provision job was not started, or ended otherwise, nothing is started behind it.
+/// job; those of the command; and last the dispose job of the instances that were named, exactly where the provision job ended with
+/// 0, unless there is none or its start failed. Where the provision job was not started, or ended otherwise, nothing is started
+/// behind it; nor where its output is longer than can be counted.
 pub fn instances_are_disposed_of_last()
     ensures order { (folder : List ℕ) (command : ACommand) (before after : AnOutside) (answer : ℕ) → Elsewhere folder command before after answer
-        → HasJobOrder folder command before after answer }
+        → HasJobOrder folder command before after }
 {}
