@@ -42,12 +42,12 @@ pub struct Unprovided {
     pub disposal: Option<Disposal>,
 }
 
-/// Has instances provisioned for so many workers, where the project asks for them. All that disposes of them is made here, so
-/// that their end wants no memory.
+/// Has instances provisioned for so many workers, where the project asks for them. The job that disposes of them is made here, so
+/// that it wants no memory at their end.
 ///
 /// They are to be disposed of exactly where the provisioning ended with 0: so behind the refusals `NoneNamed` and `NamesLost`,
-/// too, by a job that was made in front of it and names none of them. `NoMemory` comes where the provisioning was not started, or
-/// was stopped.
+/// too, by a job that was made in front of it and names none of them. `NoMemory` comes where the provisioning was not started, or did
+/// not end with 0, or its output is longer than can be counted.
 pub fn provide<S: Spawner>(
     alloc: Global,
     conf: Conf,
@@ -148,7 +148,8 @@ fn on_names(alloc: Global, conf: Conf, workers: u32, names: IdList) -> Result<Pr
     })
 }
 
-/// Disposes of the instances, and tells of an end that is not well. It refuses nothing, and takes no memory.
+/// Disposes of the instances, and tells of an end that is not well. It refuses nothing. Of memory it
+/// takes what the start of a program does.
 pub fn dispose<S: Spawner, E: Sink>(disposal: Option<Disposal>, spawner: &mut S, err: &mut E)
     ensures step { DisposesOf disposal (S.seen spawner.old) (S.seen spawner.new) (E.seen err.old) (E.seen err.new) }
 {
