@@ -1,5 +1,5 @@
 -- The instances that a child names, and how it ends.
-use Rattle.std.proofs.Common.{◌≡◌, ◌≤◌, ◌<◌, ◌&&◌, ◌==◌, nat_lt, Bool, true, false, cond, ℕ, List, [], ◌++◌, length, arith, refl, sym, ap, subst, ◌∙◌}
+use Rattle.std.proofs.Common.{◌≡◌, ◌≤◌, ◌<◌, ◌&&◌, ◌==◌, nat_lt, Bool, true, false, cond, ℕ, List, [], ◌++◌, length, arith, refl, sym, ap, subst, ◌∙◌, inl}
 use Rattle.std.specs.Prelude.{Option, Some, None, IfSome, IfOk, Result, Ok, Err, ℤ, pos}
 use Rattle.std.proofs.lemmas.Bool.{eqb-true, false_from_ne_true}
 use Rattle.std.proofs.lemmas.Bool.Decides.{nat_tests}
@@ -12,14 +12,19 @@ use Rattle.outcome_fold.specs.Order.{in_byte_order}
 use Rattle.testr_conf.specs.Lines.{is_plain_line}
 use Rattle.testr_conf.specs.White.{words_of}
 use Rattle.testr_conf.proofs.TextLemmas.{test_from_text, text_from_test}
+use Rattle.suite_plan.specs.Held.{TellsOtherwise}
 use Rattle.suite_plan.specs.Outputs.{HasStatus}
 use Rattle.suite_plan.specs.Provisioning.{named_in, TellsInstances, TellsNames, IsOfProvider, TellsEnd}
-use Rattle.suite_plan.specs.Saying.{told_of}
 use Rattle.suite_plan.specs.Tails.{IsTailOf}
 use Rattle.suite_plan.specs.declared.disposing.DisposeFault.TheVariants.{Ended}
 use Rattle.suite_plan.specs.declared.provisioning.ProvisionRefusal.{ProvisionRefusal}
 use Rattle.suite_plan.specs.declared.provisioning.ProvisionRefusal.TheVariants as why
 use Rattle.suite_plan.specs.declared.tail.Tail.{Tail}
+
+-- ---- an end
+
+same_exit : (one other : ℤ) → Exit one ≡ Exit other → one ≡ other
+same_exit one other same = cc
 
 -- ---- what an output names
 
@@ -67,19 +72,19 @@ none_of_empty names listed empty same is holds = sym same ∙ nil_from_length li
 
 -- ---- what is told of a child that provisions
 
-abbrev Holds : Tail → List ℕ → Type 0
-Holds tail bytes = IsTailOf bytes tail
-
 -- what is told of names that are the same is the same
 pub tells_of : (names named : List (List ℕ)) (result : Result (List (List ℕ)) ProvisionRefusal) → names ≡ named → TellsNames names result → TellsNames named result
 tells_of names named result same tells = subst (λ (l : List (List ℕ)). TellsNames l result) same tells
 
--- what is told of the bytes that are held is told of the child that gave them, and ended with 0
-pub names_told : (told : Option Output) (status : ℤ) (tail : Tail) (bytes : List ℕ) (result : Result (List (List ℕ)) ProvisionRefusal) → IfSome told (HasStatus (Holds tail) (Ok status)) → status ≡ pos 0 → bytes ≡ tail.bytes.items → TellsNames (named_in bytes) result
-    → IfSome told (TellsInstances result)
-names_told None status tail bytes result ends zero same tells = tt
-names_told (Some output) status tail bytes result ends zero same tells =
-    by result (tells_of (named_in bytes) (named_in output.bytes) result (ap named_in same ∙ named_tail output.bytes tail ends.1) tells)
+-- what is told of the bytes that are held is told of all
+pub tail_told : (bytes held : List ℕ) (tail : Tail) (result : Result (List (List ℕ)) ProvisionRefusal) → IsTailOf bytes tail → held ≡ tail.bytes.items → TellsNames (named_in held) result → TellsNames (named_in bytes) result
+tail_told bytes held tail result has same tells = tells_of (named_in held) (named_in bytes) result (ap named_in same ∙ named_tail bytes tail has) tells
+
+-- and so it is told of the child that gave them, and ended with 0
+pub names_told : (told : Option Output) (status : ℤ) (has : List ℕ → Type 0) (result : Result (List (List ℕ)) ProvisionRefusal) → IfSome told (HasStatus has (Ok status)) → status ≡ pos 0
+    → ((bytes : List ℕ) → has bytes → TellsNames (named_in bytes) result) → IfSome told (TellsInstances result)
+names_told None status has result ends zero tells = tt
+names_told (Some output) status has result ends zero tells = by result (tells output.bytes ends.1)
   where
     ended : output.finish ≡ Exit (pos 0)
     ended = ends.0 ∙ ap Exit zero
@@ -91,7 +96,7 @@ names_told (Some output) status tail bytes result ends zero same tells =
     by (Err (why.Failed shown said)) told = absurd told
     by (Err why.NoneNamed) told = record { ended = ended; none = told }
     by (Err why.NamesLost) told = ended
-    by (Err why.NoMemory) told = tt
+    by (Err why.NoMemory) told = absurd told
 
 -- and it is answered of a child that was started
 pub names_of_child : (named : List (List ℕ)) (result : Result (List (List ℕ)) ProvisionRefusal) → TellsNames named result → IsOfProvider result
@@ -103,14 +108,31 @@ names_of_child named (Err why.NoneNamed) tells = tt
 names_of_child named (Err why.NamesLost) tells = tt
 names_of_child named (Err why.NoMemory) tells = tt
 
-pub otherwise_told : (told : Option Output) (status shown : ℤ) (tail : Tail) (said : List ℕ) → shown ≡ status → IfSome told (HasStatus (Holds tail) (Ok status)) → (status ≡ pos 0 → ⊥)
-    → ((text : List ℕ) → IsTailOf text tail → said ≡ told_of text) → IfSome told (TellsInstances (Err (why.Failed shown said)))
-otherwise_told None status shown tail said same ends other says = tt
-otherwise_told (Some output) status shown tail said same ends other says = record {
-  ended = ends.0 ∙ ap Exit (sym same);
-  other = λ zero. other (sym same ∙ zero);
-  says = says output.bytes ends.1;
-}
+-- so it is of one that ended otherwise
+pub otherwise_told : (told : Option Output) (status shown : ℤ) (has : List ℕ → Type 0) (refusal : ProvisionRefusal) → shown ≡ status → IfSome told (HasStatus has (Ok status)) → (status ≡ pos 0 → ⊥)
+    → ((bytes : List ℕ) → has bytes → TellsOtherwise shown bytes refusal) → IfSome told (TellsInstances (Err refusal))
+otherwise_told None status shown has refusal same ends other tells = tt
+otherwise_told (Some output) status shown has refusal same ends other tells = by refusal (tells output.bytes ends.1)
+  where
+    by : (refusal : ProvisionRefusal) → TellsOtherwise shown output.bytes refusal → TellsInstances (Err refusal) output
+    by why.Spawn told = told
+    by why.Child told = absurd told
+    by (why.Failed number said) told = record {
+      ended = ends.0 ∙ ap Exit (sym (told.0 ∙ same));
+      other = λ zero. other (sym (told.0 ∙ same) ∙ zero);
+      says = told.1;
+    }
+    by why.NoneNamed told = absurd told
+    by why.NamesLost told = absurd told
+    by why.NoMemory told = inl (λ zero. other (same_exit status (pos 0) (sym ends.0 ∙ zero)))
+
+pub otherwise_of_child : (status : ℤ) (bytes : List ℕ) (refusal : ProvisionRefusal) → TellsOtherwise status bytes refusal → IsOfProvider (Err refusal)
+otherwise_of_child status bytes why.Spawn tells = tells
+otherwise_of_child status bytes why.Child tells = tt
+otherwise_of_child status bytes (why.Failed number said) tells = tt
+otherwise_of_child status bytes why.NoneNamed tells = tt
+otherwise_of_child status bytes why.NamesLost tells = tt
+otherwise_of_child status bytes why.NoMemory tells = tt
 
 -- ---- what is told of a child that disposes
 

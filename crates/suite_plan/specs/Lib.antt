@@ -15,6 +15,7 @@ pub mod Outputs
 pub mod Gathering
 pub mod Counting
 pub mod Provisioning
+pub mod Held
 pub mod Patterns
 pub mod Choosing
 pub mod Sharing

@@ -1,5 +1,5 @@
 -- What was taken of a child that is read piece by piece.
-use Rattle.std.specs.Prelude.{◌≡◌, ⊤, ℕ, ℤ, Option, List, ◌++◌, Result, Ok, Err}
+use Rattle.std.specs.Prelude.{◌≡◌, ⊤, ℕ, ℤ, ◌+◌, ◌^◌, ◌≤◌, Option, List, ◌++◌, length, Result, Ok, Err}
 use Rattle.edge_io.specs.Children.{Output, GivesFront, HasEnded}
 use Rattle.edge_io.specs.Steps.{Goes}
 use Rattle.edge_io.specs.declared.child.Finish.TheVariants.{Exit, ReadFault}
@@ -16,6 +16,14 @@ pub record HasTakenFront (has : List ℕ → Type 0) (before now : Option Output
 -- a further piece was taken, behind what was taken before
 abbrev pub TakesOutputPiece : (has now : List ℕ → Type 0) → Option Output → Option Output → Type 0
 TakesOutputPiece has now before after = (done : List ℕ) → has done → (piece : List ℕ) × Goes before after (GivesFront piece) × now (done ++ piece)
+
+-- so many bytes were given, or more
+abbrev pub GivesBytes : (count : ℕ) → Output → Output → Type 0
+GivesBytes count s t = count + length t.bytes ≤ length s.bytes
+
+-- the bytes are more than can be counted
+abbrev pub IsEndless : Output → Type 0
+IsEndless output = 2 ^ 64 ≤ length output.bytes + 1
 
 -- the output had ended, and its reads do not fail there
 pub record IsAtEnd (s t : Output) : Type 0 where

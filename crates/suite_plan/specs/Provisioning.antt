@@ -13,6 +13,7 @@ use Rattle.testr_conf.specs.Lines.{is_plain_line}
 use Rattle.testr_conf.specs.Settings.{Settings}
 use Rattle.testr_conf.specs.White.{words_of}
 use Rattle.suite_plan.specs.Children.{StartsFor, IsBroken}
+use Rattle.suite_plan.specs.Outputs.{IsEndless}
 use Rattle.suite_plan.specs.Saying.{most_said, told_of}
 use Rattle.suite_plan.specs.declared.disposing.DisposeFault.{DisposeFault}
 use Rattle.suite_plan.specs.declared.disposing.DisposeFault.TheVariants as end
@@ -56,6 +57,10 @@ pub record NamesNone (output : Output) : Type 0 where
 abbrev pub EndsWithZero : Output → Type 0
 EndsWithZero output = output.finish ≡ Exit (pos 0)
 
+-- the child did not end with 0, or its output is longer than can be counted
+abbrev pub EndsUnheard : Output → Type 0
+EndsUnheard output = (EndsWithZero output → ⊥) ⊎ IsEndless output
+
 -- The child ended with this status, which is not 0. This is told of its output, as a text.
 pub record EndsOtherwise (status : ℤ) (said : List ℕ) (output : Output) : Type 0 where
   pub ended : output.finish ≡ Exit status
@@ -74,7 +79,7 @@ HasProvisionCause settings workers Child s t = StartsProvisioning settings worke
 HasProvisionCause settings workers (Failed status said) s t = StartsProvisioning settings workers (EndsOtherwise status said) s t
 HasProvisionCause settings workers NoneNamed s t = StartsProvisioning settings workers NamesNone s t
 HasProvisionCause settings workers NamesLost s t = StartsProvisioning settings workers EndsWithZero s t
-HasProvisionCause settings workers NoMemory s t = Stays s t ⊎ StartsProvisioning settings workers (λ output. ⊤) s t
+HasProvisionCause settings workers NoMemory s t = Stays s t ⊎ StartsProvisioning settings workers EndsUnheard s t
 
 -- a start failed
 abbrev pub provision_failed : Result (Option (List (List ℕ))) ProvisionRefusal → Bool
@@ -103,7 +108,7 @@ TellsInstances (Err Child) output = IsBroken output.finish
 TellsInstances (Err (Failed status said)) output = EndsOtherwise status said output
 TellsInstances (Err NoneNamed) output = NamesNone output
 TellsInstances (Err NamesLost) output = EndsWithZero output
-TellsInstances (Err NoMemory) output = ⊤
+TellsInstances (Err NoMemory) output = EndsUnheard output
 
 -- it is answered of a child that was started
 abbrev pub IsOfProvider : Result (List (List ℕ)) ProvisionRefusal → Type 0
@@ -137,7 +142,7 @@ abbrev pub HasDisposeFault : Job → DisposeFault → Spawning → Spawning → 
 HasDisposeFault job end.Spawn s t = Stays s t
 HasDisposeFault job end.Child s t = StartsToMeet job (λ output. IsBroken output.finish) s t
 HasDisposeFault job (end.Ended status) s t = StartsToMeet job (EndsWith status) s t
-HasDisposeFault job end.NoMemory s t = StartsToMeet job (λ output. ⊤) s t
+HasDisposeFault job end.NoMemory s t = StartsToMeet job IsEndless s t
 
 -- a start failed
 abbrev pub dispose_failed : Result (Unit {0}) DisposeFault → Bool
@@ -159,7 +164,7 @@ TellsEnd (Ok done) output = EndsWithZero output
 TellsEnd (Err end.Spawn) output = ⊥
 TellsEnd (Err end.Child) output = IsBroken output.finish
 TellsEnd (Err (end.Ended status)) output = EndsWith status output
-TellsEnd (Err end.NoMemory) output = ⊤
+TellsEnd (Err end.NoMemory) output = IsEndless output
 
 -- it is answered of a child that was started
 abbrev pub IsOfDisposer : Result (Unit {0}) DisposeFault → Type 0

@@ -93,7 +93,11 @@ fn end_child<C: Child>(child: &mut C, buffer: &mut [u8]) -> Result<(), DisposeFa
 struct Leaver;
 
 impl Taker for Leaver {
+    ghost use Rattle.std.specs.Prelude.{false};
+
     ghost has = { λ _ _. Unit {0} };
+
+    ghost lacks = { false };
 
     ghost ready = { λ _. Unit {0} };
 

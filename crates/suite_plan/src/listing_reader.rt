@@ -49,9 +49,12 @@ impl ListingReader {
 }
 
 impl Taker for ListingReader {
+    ghost use Rattle.std.specs.Prelude.{true};
     ghost use Rattle.suite_plan.specs.Gathering.{HasGatheredListing, HasRoomForPiece};
 
     ghost has = { HasGatheredListing };
+
+    ghost lacks = { true };
 
     ghost ready = { HasRoomForPiece };
 

@@ -1,10 +1,10 @@
 //! The output of a child, read to its end.
 
-ghost use Rattle.std.specs.Prelude.{◌≡◌, ◌<◌, ◌≤◌, ◌++◌, ℕ, List, [], true, false, length, IfOk, OnOk, IfSome};
+ghost use Rattle.std.specs.Prelude.{◌≡◌, ◌<◌, ◌≤◌, ◌++◌, ℕ, List, [], Bool, true, false, length, IfOk, IfErr, OnOk, IfSome};
 ghost use Rattle.edge_io.specs.Children.{HasBroken};
 ghost use Rattle.edge_io.specs.Steps.{Goes};
-ghost use Rattle.suite_plan.specs.Outputs.{TakesOutputPiece, IsAtEnd, IsTaken, HasStatus};
-ghost use Rattle.suite_plan.specs.declared.output.OutputFault.TheVariants.{Child as child_fault};
+ghost use Rattle.suite_plan.specs.Outputs.{TakesOutputPiece, GivesBytes, IsEndless, IsAtEnd, IsTaken, HasStatus};
+ghost use Rattle.suite_plan.specs.declared.output.OutputFault.TheVariants.{Child as child_fault, NoMemory as no_memory};
 ghost use Rattle.edge_io.specs.declared.child.Finish.TheVariants.{ReadFault};
 
 use edge_io::{Child, Failed, PIECE};
@@ -16,6 +16,9 @@ pub(crate) trait Taker {
     /// It has taken these bytes.
     ghost has: { Self → List ℕ → Type 0 };
 
+    /// Memory may be wanting for what it takes.
+    ghost lacks: { Bool };
+
     /// It has room for the next piece.
     ghost ready: { Self → Type 0 };
 
@@ -24,6 +27,7 @@ pub(crate) trait Taker {
         requires ready { ready self.old }
         requires piece { length piece.now ≤ 65536 }
         ensures ready { OnOk result (ready self.new) }
+        ensures lack { IfErr result (λ _. lacks ≡ true) }
         ensures ok { (bytes : List ℕ) → has self.old bytes → OnOk result (has self.new (bytes ++ piece.now)) };
 }
 
@@ -32,7 +36,7 @@ pub(crate) trait Taker {
 pub(crate) enum OutputFault {
     /// A read of the child failed, or the wait for it.
     Child,
-    /// There is not enough memory.
+    /// There is not enough memory, or the output is longer than can be counted.
     NoMemory,
 }
 
@@ -69,6 +73,7 @@ pub(crate) fn read_to_end<C: Child, T: Taker>(
     ensures ready { IfOk result (λ _. T.ready taker.new) }
     ensures took { IfOk result (λ _. (bytes : List ℕ) × T.has taker.new bytes) }
     ensures told { IfSome (C.seen child.old).told (HasStatus (T.has taker.new) result) }
+    ensures endless { result ≡ Err no_memory → T.lacks ≡ false → IfSome (C.seen child.old).told IsEndless }
 {
     match take_pieces(child, buffer, taker) {
         Ok(()) => match child.wait() {
@@ -96,6 +101,7 @@ fn take_pieces<C: Child, T: Taker>(
     ensures took { OnOk result ((bytes : List ℕ) × T.has taker.new bytes) }
     ensures whole { OnOk result (Goes (C.seen child.old).told (C.seen child.new).told (IsTaken (T.has taker.new))) }
     ensures broken { result ≡ Err child_fault → IfSome (C.seen child.old).told (λ output. output.finish ≡ ReadFault) }
+    ensures endless { result ≡ Err no_memory → T.lacks ≡ false → IfSome (C.seen child.old).told IsEndless }
 {
     for _ in 0..u64::MAX {
         if !take_piece(child, buffer, taker)? {
@@ -117,6 +123,8 @@ fn take_piece<C: Child, T: Taker>(
     ensures ready { OnOk result (T.ready taker.new) }
     ensures room { length buffer.new ≡ length buffer.old }
     ensures more { result ≡ Ok true → TakesOutputPiece (T.has taker.old) (T.has taker.new) (C.seen child.old).told (C.seen child.new).told }
+    ensures given { result ≡ Ok true → Goes (C.seen child.old).told (C.seen child.new).told (GivesBytes 1) }
+    ensures lack { result ≡ Err no_memory → T.lacks ≡ true }
     ensures ended { result ≡ Ok false → Goes (C.seen child.old).told (C.seen child.new).told IsAtEnd }
     ensures same { result ≡ Ok false → taker.new ≡ taker.old }
     ensures broken { result ≡ Err child_fault → IfSome (C.seen child.old).told HasBroken }

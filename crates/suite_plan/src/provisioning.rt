@@ -1,13 +1,14 @@
 //! The instances that a project's own command provisions.
 
-ghost use Rattle.std.specs.Prelude.{◌≡◌, ◌<◌, length, IfOk, IfSome};
+ghost use Rattle.std.specs.Prelude.{◌≡◌, ◌<◌, ℕ, List, [], length, IfOk, IfSome};
 ghost use Rattle.sub_number.specs.Texts.{IsShortText};
 ghost use Rattle.outcome_fold.specs.Order.{in_byte_order};
 ghost use Rattle.testr_conf.specs.White.{words_of};
+ghost use Rattle.suite_plan.specs.Held.{HasHeld, TellsOtherwise};
 ghost use Rattle.suite_plan.specs.Provisioning.{Provisions, TellsInstances, TellsNames, IsOfProvider, named_in, workers_on};
 
 use crate::conf_file::copied_list;
-use crate::output::{OutputFault, read_buffer, read_to_end};
+use crate::output::{OutputFault, Taker, read_buffer, read_to_end};
 use crate::tail::Tail;
 use edge_io::{Child, Failed, Spawner};
 use outcome_fold::in_order;
@@ -32,7 +33,8 @@ pub enum ProvisionRefusal {
     NoneNamed,
     /// The child ended with 0, and there is not enough memory for the names of its instances.
     NamesLost,
-    /// There is not enough memory. No child was started, or it was stopped before its output was read to its end.
+    /// There is not enough memory. No child was started, or it ended with another status than 0, or its output is longer than
+    /// can be counted.
     NoMemory,
 }
 
@@ -84,15 +86,72 @@ fn name_instances<C: Child>(
     ensures of_child { IsOfProvider result }
     ensures told { IfSome (C.seen child.old).told (TellsInstances result) }
 {
-    let mut output = Tail::new(alloc);
+    let mut output = HeldOutput::new(alloc);
     match read_to_end(child, buffer, &mut output) {
-        Ok(0) => name_some(alloc, output.bytes()),
-        Ok(status) => {
-            let told = output.into_told(alloc)?;
-            Err(ProvisionRefusal::Failed(status, told))
-        }
+        Ok(0) => name_held(alloc, &output),
+        Ok(status) => Err(told_otherwise(alloc, status, output)),
         Err(OutputFault::Child) => Err(ProvisionRefusal::Child),
         Err(OutputFault::NoMemory) => Err(ProvisionRefusal::NoMemory),
+    }
+}
+
+// The last bytes of an output, and none where there was no memory for them. So a child is never stopped for want of memory
+// while it makes instances, and it is known whether it ended with 0.
+#[derive(Drop)]
+struct HeldOutput {
+    tail: Option<Tail>,
+}
+
+impl HeldOutput {
+    fn new(alloc: Global) -> Self
+        ensures { HasHeld result [] }
+    {
+        HeldOutput {
+            tail: Some(Tail::new(alloc)),
+        }
+    }
+}
+
+impl Taker for HeldOutput {
+    ghost use Rattle.std.specs.Prelude.{false};
+    ghost use Rattle.suite_plan.specs.Held.{HasHeld};
+
+    ghost has = { HasHeld };
+
+    ghost lacks = { false };
+
+    ghost ready = { λ _. Unit {0} };
+
+    fn take(&mut self, piece: &[u8]) -> Result<(), NoMemory> {
+        if let Some(mut tail) = self.tail.take()
+            && tail.add(piece).is_ok()
+        {
+            self.tail = Some(tail);
+        }
+        Ok(())
+    }
+}
+
+// The instances that the output of a child names which ended with 0, of which there is one at least.
+fn name_held(alloc: Global, output: &HeldOutput) -> Result<IdList, ProvisionRefusal>
+    ensures { (bytes : List ℕ) → HasHeld output.now bytes → TellsNames (named_in bytes) result }
+{
+    match &output.tail {
+        Some(tail) => name_some(alloc, tail.bytes()),
+        None => Err(ProvisionRefusal::NamesLost),
+    }
+}
+
+// What is refused of a child that ended with another status than 0.
+fn told_otherwise(alloc: Global, status: i32, output: HeldOutput) -> ProvisionRefusal
+    ensures { (bytes : List ℕ) → HasHeld output bytes → TellsOtherwise status bytes result }
+{
+    let Some(tail) = output.tail else {
+        return ProvisionRefusal::NoMemory;
+    };
+    match tail.into_told(alloc) {
+        Ok(told) => ProvisionRefusal::Failed(status, told),
+        Err(NoMemory) => ProvisionRefusal::NoMemory,
     }
 }
 

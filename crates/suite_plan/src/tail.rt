@@ -131,9 +131,12 @@ impl Tail {
 }
 
 impl Taker for Tail {
+    ghost use Rattle.std.specs.Prelude.{true};
     ghost use Rattle.suite_plan.specs.Tails.{IsTailOf as IsTail};
 
     ghost has = { λ tail bytes. IsTail bytes tail };
+
+    ghost lacks = { true };
 
     ghost ready = { λ _. Unit {0} };
 
