@@ -130,7 +130,7 @@ def one_is_lost(folder, env, loses):
     check(lost and len(lost) < TOTAL // WORKERS, f"{len(lost)} tests were lost")
     check({tests[name][1] for name in lost} == {"2"}, "tests of another instance were lost")
     check(all(ended == "success" for ended, _ in tests.values() if ended != "inprogress"), "a test failed")
-    check(all(b"FAIL: " + name.encode() + b"\n" in out for name in lost), "the report does not name what was lost")
+    check(all(b"UNFINISHED: " + name.encode() + b"\n" in out for name in lost), "the report does not name what was lost")
 
 
 # ---- the kinds of engines: what each needs, as the environment of its project; how its third instance is lost; and which

@@ -124,7 +124,7 @@ fn is_so<R: Threads + Wait + Sync + AllocGlobal>(rt: &R, row: &Row<'_>) -> Resul
     Ok(played.told.is(*status, out, err) && has_started(&played.project, jobs))
 }
 
-const PROVISIONINGS: [Row<'static>; 10] = [
+const PROVISIONINGS: [Row<'static>; 11] = [
     // The run is on the one instance, which is disposed of.
     (RUN, (0, PASSED_AS_0, NOTHING), &[MADE, RAN, DROPPED]),
     (
@@ -164,6 +164,15 @@ const PROVISIONINGS: [Row<'static>; 10] = [
     (
         Scene {
             outputs: &[(b" \n\n", ENDED), (NOTHING, ENDED)],
+            ..RUN
+        },
+        (3, NOTHING, b"testr: no instances\n"),
+        &[MADE, DROPPED_NONE],
+    ),
+    // It prints nothing.
+    (
+        Scene {
+            outputs: &[(NOTHING, ENDED), (NOTHING, ENDED)],
             ..RUN
         },
         (3, NOTHING, b"testr: no instances\n"),
@@ -336,6 +345,54 @@ const REFUSALS: [Row<'static>; 12] = [
 #[test]
 fn instances_are_disposed_of_behind_every_refusal(rt: HostRuntime) -> Result<(), Fail> {
     for (number, row) in REFUSALS.iter().enumerate() {
+        assert!(rt; is_so(&rt, row)?, "row {number}");
+    }
+    Ok(())
+}
+
+// A listing on two instances.
+const LISTING: Scene<'static> = Scene {
+    words: &["testr", "run", "--parallel", "--concurrency=2"],
+    outputs: &[
+        (b"b a\n", ENDED),
+        (NOTHING, Finish::ReadFault),
+        (NOTHING, ENDED),
+    ],
+    ..RUN
+};
+
+const LISTINGS: [Row<'static>; 3] = [
+    (
+        LISTING,
+        (4, NOTHING, NOT_READ),
+        &[MADE_TWO, LISTED, DROPPED_TWO],
+    ),
+    // It is not started.
+    (
+        Scene {
+            outputs: &[(b"b a\n", ENDED), (NOTHING, ENDED)],
+            starts: &[1],
+            ..LISTING
+        },
+        (4, NOTHING, NO_START),
+        &[MADE_TWO, DROPPED_TWO],
+    ),
+    // Its ids are not printed.
+    (
+        Scene {
+            words: &["testr", "list-tests"],
+            outputs: &[(b"a\n", ENDED), (A_B_AND_C, ENDED), (NOTHING, ENDED)],
+            writes: &[0],
+            ..LISTING
+        },
+        (4, NOTHING, b"testr: fault writing output\n"),
+        &[MADE, LISTED, DROPPED],
+    ),
+];
+
+#[test]
+fn instances_are_disposed_of_behind_a_failed_listing(rt: HostRuntime) -> Result<(), Fail> {
+    for (number, row) in LISTINGS.iter().enumerate() {
         assert!(rt; is_so(&rt, row)?, "row {number}");
     }
     Ok(())
