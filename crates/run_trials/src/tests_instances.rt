@@ -794,7 +794,17 @@ fn names_by<R: Threads + Wait + Sync + AllocGlobal>(
     jobs: &[Parts<'_>],
 ) -> Result<bool, Fail> {
     let output = long_output(rt.alloc(), size)?;
-    let outputs = [(output.as_slice(), ENDED), (FOO, ENDED), (NOTHING, ENDED)];
+    names(rt, &output, told, jobs)
+}
+
+// Whether one that gives these bytes ends so.
+fn names<R: Threads + Wait + Sync + AllocGlobal>(
+    rt: &R,
+    output: &[u8],
+    told: (u8, &[u8], &[u8]),
+    jobs: &[Parts<'_>],
+) -> Result<bool, Fail> {
+    let outputs = [(output, ENDED), (FOO, ENDED), (NOTHING, ENDED)];
     let scene = Scene {
         outputs: &outputs,
         ..RUN
