@@ -1,7 +1,6 @@
 //! Runs and listings on instances: which programs are started, in which order, and what is told, at every exit.
 
 use edge_io::Finish;
-use std::alloc::Global;
 use std::sync::Wait;
 use std::test::Fail;
 use std::thread::Threads;
@@ -775,48 +774,5 @@ fn makes_a_repository<R: Threads + Wait + Sync + AllocGlobal>(rt: &R) -> Result<
 #[test]
 fn a_repository_is_made_in_front_of_instances(rt: HostRuntime) -> Result<(), Fail> {
     assert!(rt; makes_a_repository(&rt)?);
-    Ok(())
-}
-
-// An output of so many bytes that has one name.
-fn long_output(alloc: Global, size: usize) -> Result<Vec<u8>, Fail> {
-    let mut output = Vec::new(alloc);
-    output.push(b'a')?;
-    output.resize(size, b' ')?;
-    Ok(output)
-}
-
-// Whether a provision job that gives so many bytes with one name ends so.
-fn names_by<R: Threads + Wait + Sync + AllocGlobal>(
-    rt: &R,
-    size: usize,
-    told: (u8, &[u8], &[u8]),
-    jobs: &[Parts<'_>],
-) -> Result<bool, Fail> {
-    let output = long_output(rt.alloc(), size)?;
-    names(rt, &output, told, jobs)
-}
-
-// Whether one that gives these bytes ends so.
-fn names<R: Threads + Wait + Sync + AllocGlobal>(
-    rt: &R,
-    output: &[u8],
-    told: (u8, &[u8], &[u8]),
-    jobs: &[Parts<'_>],
-) -> Result<bool, Fail> {
-    let outputs = [(output, ENDED), (FOO, ENDED), (NOTHING, ENDED)];
-    let scene = Scene {
-        outputs: &outputs,
-        ..RUN
-    };
-    is_so(rt, &(scene, told, jobs))
-}
-
-#[test]
-fn a_long_output_names_no_instance(rt: HostRuntime) -> Result<(), Fail> {
-    let named = (0, PASSED_AS_0, NOTHING);
-    assert!(rt; names_by(&rt, 65_535, named, &[MADE, RAN, DROPPED])?);
-    let none = (3, NOTHING, b"testr: no instances\n".as_slice());
-    assert!(rt; names_by(&rt, 65_536, none, &[MADE, DROPPED_NONE])?);
     Ok(())
 }
