@@ -357,6 +357,16 @@ def kill_at_random(chance, folder, words, given, whole):
     return made
 
 
+def load_behind_a_kill(folder):
+    """What `load` answers. A child that was made as its parent was killed holds the lock until it has become the worker."""
+    for _ in range(50):
+        answer = run(folder, "load", "--force-init", given=packet(b"a", SUCCESS))
+        if b"another testr is at work" not in answer[2]:
+            break
+        time.sleep(0.1)
+    return answer
+
+
 def kill_often(words, folder_of, given, recorded):
     chance, seen = random.Random(1), []
     folder = folder_of()
@@ -370,7 +380,7 @@ def kill_often(words, folder_of, given, recorded):
         seen.append(len(made))
         check(len(made) < 2 or bytes_of(folder, "0") == recorded, f"a kill of {words} leaves a part of its run")
         number = 1 if "0" in made else 0
-        check_answer(run(folder, "load", "--force-init", given=packet(b"a", SUCCESS)), 0, report([], 1, number), f"load behind {words}")
+        check_answer(load_behind_a_kill(folder), 0, report([], 1, number), f"load behind {words}")
     check(len(set(seen)) > 1, f"all kills of {words} leave the same: {seen[0]} files")
 
 
