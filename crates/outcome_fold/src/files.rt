@@ -6,6 +6,7 @@ ghost use Rattle.outcome_fold.specs.Files.{no_files, ends_line, frame_head, fram
 
 use crate::part::KeptText;
 use std::alloc::Global;
+use std::marker::Model;
 use sub_number::{Bytes, NoMemory};
 
 /// The name of the file that says how a test failed. Its text stands last, and without a name.
@@ -153,6 +154,90 @@ impl KeptFiles {
             traceback: self.traceback.copy(alloc)?,
         })
     }
+}
+
+/// `KeptFiles` in a box, which there is from the first byte on: a test is moved often while it is open, and most have no
+/// file of text. Contracts see it as the files.
+#[derive(Drop)]
+pub struct BoxedFiles {
+    files: Option<Box<KeptFiles>>,
+}
+
+impl Model for BoxedFiles {
+    ghost use Rattle.std.specs.Prelude.{box_value};
+    ghost use Rattle.std.specs.Option.{option_map, unwrap_or};
+    ghost use Rattle.outcome_fold.specs.declared.files.KeptFiles.{KeptFiles as SomeFiles};
+    ghost use Rattle.outcome_fold.specs.Files.{no_files};
+
+    ghost Value = { SomeFiles };
+
+    ghost view = { λ b. unwrap_or (option_map box_value b.files) no_files };
+}
+
+impl BoxedFiles {
+    /// No files. They take no memory.
+    #[inline(always)]
+    pub fn new() -> Self
+        ensures { result ≡ no_files }
+    {
+        BoxedFiles { files: None }
+    }
+
+    /// Takes a piece of the file of this name. Of its bytes no more are copied than are kept.
+    #[inline(always)]
+    pub fn append(&mut self, alloc: Global, name: &[u8], piece: &[u8]) -> Result<(), NoMemory>
+        ensures ok { OnOk result (self.new ≡ with_piece self.old name.now piece.now) }
+        ensures err { OnErr result (self.new ≡ self.old) }
+    {
+        if piece.is_empty() {
+            return Ok(());
+        }
+        self.append_bytes(alloc, name, piece)
+    }
+
+    // The same of a piece that has bytes.
+    #[inline(never)]
+    fn append_bytes(&mut self, alloc: Global, name: &[u8], piece: &[u8]) -> Result<(), NoMemory>
+        ensures ok { OnOk result (self.new ≡ with_piece self.old name.now piece.now) }
+        ensures err { OnErr result (self.new ≡ self.old) }
+    {
+        match &mut self.files {
+            Some(files) => files.append(alloc, name, piece),
+            None => {
+                self.files = Some(boxed_piece(alloc, name, piece)?);
+                Ok(())
+            }
+        }
+    }
+
+    /// The text that shows them.
+    pub fn shown(&self, alloc: Global) -> Result<Bytes, NoMemory>
+        ensures { IfOk result (λ text. text ≡ text_shown self.now) }
+    {
+        match &self.files {
+            Some(files) => files.shown(alloc),
+            None => KeptFiles::new(alloc).shown(alloc),
+        }
+    }
+
+    /// The text that shows them with a piece more of the file of this name. They stay as they are.
+    pub fn shown_with(&self, alloc: Global, name: &[u8], piece: &[u8]) -> Result<Bytes, NoMemory>
+        ensures { IfOk result (λ text. text ≡ text_shown (with_piece self.now name.now piece.now)) }
+    {
+        match &self.files {
+            Some(files) => files.shown_with(alloc, name, piece),
+            None => KeptFiles::new(alloc).shown_with(alloc, name, piece),
+        }
+    }
+}
+
+// A piece of the file of this name, which is the first.
+fn boxed_piece(alloc: Global, name: &[u8], piece: &[u8]) -> Result<Box<KeptFiles>, NoMemory>
+    ensures { IfOk result (λ files. files.value ≡ with_piece no_files name.now piece.now) }
+{
+    let mut files = KeptFiles::new(alloc);
+    files.append(alloc, name, piece)?;
+    Ok(Box::new(alloc, files)?)
 }
 
 // A copy of the name, where there is one.

@@ -19,7 +19,7 @@ ghost use Rattle.outcome_fold.specs.Folded.{HasSeen, Speaks, open_in, other_part
 ghost use Rattle.outcome_fold.specs.Outcome.{HasFolded};
 ghost use Rattle.outcome_fold.specs.EndedParts.{completed_part, open_parts, part_of_open as part_of_an_open, row_of_part as row_of_a_part, text_told};
 
-use crate::files::KeptFiles;
+use crate::files::BoxedFiles;
 use crate::part::{
     EndedPart, KeptText, Said, Started, elapsed, file_name_heard, file_name_in, instant_in,
     said_by, said_in, text_heard, text_in,
@@ -292,7 +292,10 @@ impl Fold {
     {
         match self.others.get(key) {
             Some(part) => part.files.shown_with(self.alloc, name, piece),
-            None => KeptFiles::new(self.alloc).shown_with(self.alloc, name, piece),
+            None => {
+                let files = BoxedFiles::new();
+                files.shown_with(self.alloc, name, piece)
+            }
         }
     }
 
@@ -444,7 +447,7 @@ fn no_text(alloc: Global) -> Bytes
 }
 
 // The text of a row that is not completed.
-fn open_text(alloc: Global, files: &KeptFiles) -> Result<Bytes, NoMemory>
+fn open_text(alloc: Global, files: &BoxedFiles) -> Result<Bytes, NoMemory>
     ensures { IfOk result (λ text. text ≡ row_text ended.Open files.now) }
 {
     files.shown(alloc)

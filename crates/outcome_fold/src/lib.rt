@@ -31,7 +31,7 @@ mod summary;
 mod test_key;
 mod text_set;
 
-pub use files::KeptFiles;
+pub use files::{BoxedFiles, KeptFiles};
 pub use fold::{Fold, Outcomes};
 pub use half_laws::halves_say_the_same;
 pub use laws::{orders_of_maps, rows_are_by_route, rows_of_events};

@@ -11,7 +11,7 @@ ghost use Rattle.packet_codec.specs.Packet.{SpellsEvent};
 ghost use Rattle.packet_codec.specs.Shapes.{bytes_of};
 ghost use Rattle.packet_codec.specs.declared.event.Event.{Event as AnEvent};
 
-use crate::files::KeptFiles;
+use crate::files::BoxedFiles;
 use crate::row::Ended;
 use crate::test_key::TestKey;
 use crate::text_set::copies_of;
@@ -157,7 +157,7 @@ pub struct Started {
     /// The tags of the last event that has tags, as it has them.
     pub tags: Tags,
     /// The files of text, as far as they are kept.
-    pub files: KeptFiles,
+    pub files: BoxedFiles,
     /// The first bytes of the files named `reason`, joined.
     pub reason: KeptText,
 }
@@ -395,7 +395,7 @@ impl Started {
         let mut started = Started {
             start: said.instant,
             tags: Tags::new(alloc),
-            files: KeptFiles::new(alloc),
+            files: BoxedFiles::new(),
             reason: KeptText::new(alloc),
         };
         started.take(alloc, &mut said)?;

@@ -14,4 +14,4 @@ returns-in-Some c =
 pub returns-in-None : goal.returns-in-None
 returns-in-None c =
     subst (λ files. IfOk c.shown_with-in-None.result (λ text. text ≡ text_shown (with_piece files c.args.name.now c.args.piece.now)))
-    (c.new.ensures ∙ ap files_in (c.in-None.ensures.value ∙ lookup_in_map tests_total _ _)) c.shown_with-in-None.ensures
+    (c.new-files.ensures ∙ ap files_in (c.in-None.ensures.value ∙ lookup_in_map tests_total _ _)) c.shown_with-in-None.ensures
