@@ -7,7 +7,8 @@ use Rattle.std.specs.List.{flat_map}
 use Rattle.outcome_fold.specs.declared.row.Ended.TheVariants.{Fail}
 use Rattle.outcome_fold.specs.declared.row.Row.{Row}
 use Rattle.outcome_fold.specs.Order.{text_cmp}
-use Rattle.sub_text.specs.Texts.{failure_of, newline}
+use Rattle.outcome_fold.specs.Lines.{newline}
+use Rattle.sub_text.specs.Texts.{failure_of}
 use Rattle.last_failures.specs.declared.failures.Failure.{Failure}
 
 -- a row of this id that failed without a text

@@ -5,11 +5,12 @@ use Rattle.bstr.specs.Text.{lines_of}
 use Rattle.packet_codec.specs.Lanes.{lane_name}
 use Rattle.packet_codec.specs.declared.event.Event.{Event}
 use Rattle.outcome_fold.specs.Answers.{is_run}
+use Rattle.outcome_fold.specs.Lines.{newline, line_end}
 use Rattle.outcome_fold.specs.Rows.{is_failure, completed_rows, open_rows}
 use Rattle.outcome_fold.specs.declared.row.Ended.{Ended}
 use Rattle.outcome_fold.specs.declared.row.Ended.TheVariants as ended
 use Rattle.outcome_fold.specs.declared.row.Row.{Row}
-use Rattle.sub_text.specs.Texts.{newline, failure_of}
+use Rattle.sub_text.specs.Texts.{failure_of}
 use Rattle.sub_number.specs.Seconds.{printed_seconds}
 use Rattle.live_text.specs.declared.live.Live.{Live}
 use Rattle.live_text.specs.declared.live.Live.TheVariants.{Nothing, Tests, Failures, Dots}
@@ -44,10 +45,6 @@ word_of ended.Open = codes "UNFINISHED"
 -- a line behind four blanks
 abbrev pub line_behind_blanks : List ℕ → List ℕ
 line_behind_blanks line = codes "    " ++ line
-
--- the end of the line that a text ends within, if it does
-abbrev pub line_end : List ℕ → List ℕ
-line_end text = if length text == 0 then [] else if ends_with nat_eq text newline then [] else newline
 
 -- each line of the text behind four blanks, and a newline where the last one has none
 abbrev pub indented : List ℕ → List ℕ

@@ -8,7 +8,7 @@ use Rattle.outcome_fold.specs.declared.row.Ended.{Ended}
 use Rattle.outcome_fold.specs.declared.row.Ended.TheVariants as ended
 use Rattle.outcome_fold.specs.declared.row.Row.{Row}
 use Rattle.outcome_fold.specs.Rows.{is_skip}
-use Rattle.sub_text.specs.Texts.{newline}
+use Rattle.outcome_fold.specs.Lines.{newline}
 use Rattle.sub_number.specs.Seconds.{printed_seconds}
 use Rattle.live_text.specs.Live.{lane_shown}
 

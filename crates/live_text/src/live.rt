@@ -8,10 +8,10 @@ ghost use Rattle.std.specs.Option.{option_to_list};
 ghost use Rattle.outcome_fold.specs.Rows.{completed_row, completed_behind};
 ghost use Rattle.sub_text.specs.Texts.{failure_of};
 ghost use Rattle.live_text.specs.declared.live.Live.{Live};
-ghost use Rattle.live_text.specs.Live.{lane_shown, time_in_brackets, reason_shown, word_of, line_end, indented, lines_below_test, name_shown, test_line_front, ending_shown, line_rest, test_line, mark_of, mark_in_line, marks_a_line, failure_block, live_line};
+ghost use Rattle.live_text.specs.Live.{lane_shown, time_in_brackets, reason_shown, word_of, indented, lines_below_test, name_shown, test_line_front, ending_shown, line_rest, test_line, mark_of, mark_in_line, marks_a_line, failure_block, live_line};
 
 use bstr::ByteSlice;
-use outcome_fold::{Ended, Row};
+use outcome_fold::{Ended, Row, line_end};
 use sub_number::NoMemory;
 use sub_text::{failure_parts, seconds_text};
 
@@ -94,17 +94,6 @@ fn write_reason(reason: &[u8], text: &mut Vec<u8>) -> Result<(), NoMemory>
         text.extend_from_slice(reason)?;
     }
     Ok(())
-}
-
-// The end of the line that the text ends within, if it does.
-fn line_end(text: &[u8]) -> &[u8]
-    ensures { result.now ≡ line_end text.now }
-{
-    if text.is_empty() || text.ends_with(b"\n") {
-        b""
-    } else {
-        b"\n"
-    }
 }
 
 // Each line behind four blanks.

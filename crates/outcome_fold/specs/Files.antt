@@ -1,11 +1,12 @@
 -- The files of text of a part of a test, and the text that shows them (docs/FORMATS.md, "The text of a row").
 use Rattle.std.specs.Prelude.{ℕ, Bool, not, ◌||◌, Option, Some, None, List, [], ◌∷◌, ◌++◌, map, take, length, codes, is_some, nat_eq, ◌==◌, if◌then◌else◌}
-use Rattle.std.specs.List.{filter, flat_map, list_all, ends_with}
+use Rattle.std.specs.List.{filter, flat_map, list_all}
 use Rattle.std.specs.Option.{option_map, unwrap_or}
 use Rattle.std.specs.Str.{bytes_eq}
 use Rattle.packet_codec.specs.declared.event.FilePart.{FilePart}
 use Rattle.packet_codec.specs.declared.event.Event.{Event}
 use Rattle.outcome_fold.specs.declared.files.KeptFiles.{KeptFiles}
+use Rattle.outcome_fold.specs.Lines.{ends_line, whole_lines}
 use Rattle.outcome_fold.specs.Parts.{text_in, text_limit}
 
 -- The pieces of files.
@@ -39,14 +40,6 @@ abbrev pub other_files_in : List FilePart → List FilePart
 other_files_in pieces = filter (λ p. not (is_traceback p.name)) pieces
 
 -- How a file stands that is not alone.
-
--- no line of the text is left without its end
-abbrev pub ends_line : List ℕ → Bool
-ends_line text = length text == 0 || ends_with nat_eq text (codes "\n")
-
--- the text in whole lines
-abbrev pub in_lines : List ℕ → List ℕ
-in_lines text = text ++ (if ends_line text then [] else codes "\n")
 
 -- the line before a file of this name
 abbrev pub frame_head : List ℕ → List ℕ
@@ -103,7 +96,7 @@ no_files = record { first = None; later = None; others = []; traceback = [] }
 
 -- several files but the traceback, of which the first has this name
 abbrev pub framed : List ℕ → List ℕ → List ℕ
-framed first others = in_lines (take text_limit (frame_head first ++ others ++ frame_end others))
+framed first others = whole_lines (take text_limit (frame_head first ++ others ++ frame_end others))
 
 -- the text that shows what is kept: the names of the first other file and of a later one, the bytes of the others, and
 -- the traceback

@@ -1,5 +1,6 @@
 pub mod Order
 pub mod Parts
+pub mod Lines
 pub mod Files
 pub mod Rows
 pub mod Answers

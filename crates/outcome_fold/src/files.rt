@@ -1,9 +1,10 @@
 //! The files of text of a part of a test, as far as they are kept, and the text that shows them.
 
-ghost use Rattle.std.specs.Prelude.{◌≡◌, ◌++◌, [], None, Some, take, codes, IfOk, OnOk, OnErr, if◌then◌else◌};
+ghost use Rattle.std.specs.Prelude.{◌≡◌, ◌++◌, [], None, Some, take, IfOk, OnOk, OnErr};
 ghost use Rattle.outcome_fold.specs.Parts.{text_limit};
-ghost use Rattle.outcome_fold.specs.Files.{no_files, ends_line, frame_head, frame_end, framed as framed_text, shown_by, text_shown, is_current, with_other, with_bytes, with_piece};
+ghost use Rattle.outcome_fold.specs.Files.{no_files, frame_head, frame_end, framed as framed_text, shown_by, text_shown, is_current, with_other, with_bytes, with_piece};
 
+use crate::lines::{ends_its_line, line_end};
 use crate::part::KeptText;
 use std::alloc::Global;
 use std::marker::Model;
@@ -260,13 +261,6 @@ fn is_name(first: &Bytes, later: &Option<Bytes>, name: &[u8]) -> bool
     }
 }
 
-// Whether no line of the text is left without its end.
-fn ends_its_line(text: &[u8]) -> bool
-    ensures { result ≡ ends_line text.now }
-{
-    text.is_empty() || text.ends_with(b"\n")
-}
-
 // What stands behind a file of this text, which is not alone.
 fn end_behind(text: &[u8]) -> &'static [u8]
     ensures { result.now ≡ frame_end text.now }
@@ -276,13 +270,6 @@ fn end_behind(text: &[u8]) -> &'static [u8]
     } else {
         b"\n}}}\n"
     }
-}
-
-// The end of the line that the text ends within, if it does.
-fn line_end(text: &[u8]) -> &'static [u8]
-    ensures { result.now ≡ (if ends_line text.now then [] else codes "\n") }
-{
-    if ends_its_line(text) { b"" } else { b"\n" }
 }
 
 // What stands behind this text where the piece begins a file of this name, as far as it is kept.

@@ -6,6 +6,7 @@
 //! before, where it does not say otherwise.
 //!
 //! - `test_key`: which test an event speaks of
+//! - `lines`: the end of a line that a text ends within
 //! - `files`: the files of text of a part of a test, as far as they are kept, and the text that shows them
 //! - `part`: what the events of a part of a test say together
 //! - `row`: how a test ended, and what became of it
@@ -21,6 +22,7 @@ mod files;
 mod fold;
 mod half_laws;
 mod laws;
+mod lines;
 mod longest_times;
 mod part;
 mod row;
@@ -35,6 +37,7 @@ pub use files::{BoxedFiles, KeptFiles};
 pub use fold::{Fold, Outcomes};
 pub use half_laws::halves_say_the_same;
 pub use laws::{orders_of_maps, rows_are_by_route, rows_of_events};
+pub use lines::line_end;
 pub use part::{
     EndedPart, KeptText, Started, elapsed, file_name_in, instant_in, instant_of, reason_heard,
     reason_in, text_heard, text_in,

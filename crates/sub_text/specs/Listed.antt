@@ -6,7 +6,7 @@ use Rattle.outcome_fold.specs.declared.row.Row.{Row}
 use Rattle.outcome_fold.specs.declared.row.Counts.{Counts}
 use Rattle.outcome_fold.specs.Answers.{counts_of, seen_tags_of}
 use Rattle.sub_number.specs.Seconds.{printed_seconds}
-use Rattle.sub_text.specs.Texts.{newline}
+use Rattle.outcome_fold.specs.Lines.{newline}
 
 -- the time behind an id, where times are asked for and it has one
 abbrev pub time_shown : Option ℕ → Bool → List ℕ

@@ -10,13 +10,10 @@ use Rattle.outcome_fold.specs.declared.row.Ended.{Ended}
 use Rattle.outcome_fold.specs.declared.row.Ended.TheVariants as ended
 use Rattle.outcome_fold.specs.declared.row.Row.{Row}
 use Rattle.outcome_fold.specs.declared.row.Counts.{Counts}
+use Rattle.outcome_fold.specs.Lines.{newline, whole_lines}
 use Rattle.outcome_fold.specs.Order.{text_cmp, route_cmp}
 use Rattle.outcome_fold.specs.Answers.{row_fails, timed_rows, counts_of}
 use Rattle.sub_number.specs.Seconds.{printed_seconds}
-
--- the end of a line
-abbrev pub newline : List ℕ
-newline = 10 ∷ []
 
 -- Seconds with three places.
 
@@ -68,10 +65,6 @@ label ended.Skip = []
 label ended.Fail = codes "FAIL"
 label ended.XFail = []
 label ended.Open = codes "UNFINISHED"
-
--- a text that is not empty and ends within a line has one newline more
-abbrev pub whole_lines : List ℕ → List ℕ
-whole_lines text = text ++ (if length text == 0 then [] else if ends_with nat_eq text newline then [] else newline)
 
 -- the label and the id between two rulers, of `=` and of `-`
 abbrev pub heading_of : Row → List ℕ

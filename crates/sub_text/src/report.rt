@@ -3,10 +3,10 @@
 ghost use Rattle.std.specs.Prelude.{◌≡◌, ◌++◌, take, length, OnOk, OnErr};
 ghost use Rattle.std.specs.List.{filter, flat_map};
 ghost use Rattle.outcome_fold.specs.Answers.{row_fails};
-ghost use Rattle.sub_text.specs.Texts.{ruler, label, whole_lines, part_bytes, failure_of, report_of};
+ghost use Rattle.sub_text.specs.Texts.{ruler, label, part_bytes, failure_of, report_of};
 
 use crate::summary::summary_text;
-use outcome_fold::{Ended, Row, Rows};
+use outcome_fold::{Ended, Row, Rows, line_end};
 use packet_codec::Tags;
 use sub_number::NoMemory;
 
@@ -35,17 +35,6 @@ fn label<'a>(ended: Ended) -> &'a [u8]
         Ended::Fail => b"FAIL",
         Ended::Open => b"UNFINISHED",
         Ended::Exists | Ended::Success | Ended::Skip | Ended::XFail => b"",
-    }
-}
-
-// The end of the line that the text ends within, if it does.
-fn line_end(text: &[u8]) -> &[u8]
-    ensures { text.now ++ result.now ≡ whole_lines text.now }
-{
-    if text.is_empty() || text.ends_with(b"\n") {
-        b""
-    } else {
-        b"\n"
     }
 }
 

@@ -7,7 +7,7 @@ use Rattle.std.proofs.lemmas.List.{append_assoc, append_cancel_left, take-append
 use Rattle.std.proofs.lemmas.Bool.Decides.{nat_tests}
 use Rattle.std.proofs.Math.Seq.{drop-append-add}
 use Rattle.stream_reader.proofs.BufferLemmas.{moved_is}
-use Rattle.sub_text.specs.Texts.{newline, whole_lines}
+use Rattle.outcome_fold.specs.Lines.{newline, line_end, whole_lines}
 use Rattle.suite_plan.specs.Saying.{last_said, name_line}
 use Rattle.suite_plan.specs.Tails.{IsTailOf}
 use Rattle.suite_plan.specs.declared.tail.Tail.{Tail}
@@ -52,18 +52,14 @@ front_gone text old new many items cut has =
 
 -- ---- whole lines
 
--- the end of the line that a text ends within
-abbrev end_of : List ℕ → List ℕ
-end_of text = if length text == 0 then [] else if ends_with nat_eq text newline then [] else newline
-
 -- the last byte is that of the last bytes
 last_same : (gone bytes : List ℕ) → 0 < length bytes → ends_with nat_eq (gone ++ bytes) newline ≡ ends_with nat_eq bytes newline
 last_same gone bytes some =
     let place : length (gone ++ bytes) - 1 ≡ length gone + (length bytes - 1) = omega (arith, some, length-append gone bytes) in
     ap (pointwise nat_eq newline) (ap (λ n. drop n (gone ++ bytes)) place ∙ drop-append-add gone bytes (length bytes - 1))
 
-end_same : (gone bytes : List ℕ) → (gone ≡ []) ⊎ (0 < length bytes) → end_of (gone ++ bytes) ≡ end_of bytes
-end_same gone bytes (inl none) = ap (λ (l : List ℕ). end_of (l ++ bytes)) none
+end_same : (gone bytes : List ℕ) → (gone ≡ []) ⊎ (0 < length bytes) → line_end (gone ++ bytes) ≡ line_end bytes
+end_same gone bytes (inl none) = ap (λ (l : List ℕ). line_end (l ++ bytes)) none
 end_same gone bytes (inr some) =
     let long : (length (gone ++ bytes) == 0) ≡ false = grind (arith, nat_tests, some, length-append gone bytes) in
     let short : (length bytes == 0) ≡ false = grind (arith, nat_tests, some) in
@@ -77,11 +73,10 @@ has_some text tail has = cases tail.cut refl
     cases false is = inl (has.all is)
     cases true is = inr (omega (arith, (has.cut is).1))
 
-pub line_ended : (text end : List ℕ) (tail : Tail) → IsTailOf text tail → tail.bytes.items ++ end ≡ whole_lines tail.bytes.items → text ++ end ≡ whole_lines text
+pub line_ended : (text end : List ℕ) (tail : Tail) → IsTailOf text tail → end ≡ line_end tail.bytes.items → text ++ end ≡ whole_lines text
 line_ended text end tail has is =
     let bytes = tail.bytes.items in
-    let end_is : end ≡ end_of bytes = append_cancel_left bytes end (end_of bytes) is in
-    ap (λ (l : List ℕ). text ++ l) (end_is ∙ sym (end_same has.gone bytes (has_some text tail has)) ∙ ap end_of (sym has.whole))
+    ap (λ (l : List ℕ). text ++ l) (is ∙ sym (end_same has.gone bytes (has_some text tail has)) ∙ ap line_end (sym has.whole))
 
 -- ---- what is told
 

@@ -9,7 +9,7 @@ use Rattle.packet_codec.specs.declared.event.Event.{Event}
 use Rattle.stream_reader.specs.declared.note.Note.TheVariants as note
 use Rattle.stream_reader.specs.Notes.{HasEvents, events_of}
 use Rattle.stream_reader.proofs.TurnLemmas.{one_notes}
-use Rattle.sub_text.specs.Texts.{whole_lines}
+use Rattle.outcome_fold.specs.Lines.{whole_lines}
 use Rattle.suite_plan.specs.Saying.{TellsListing, with_event, plain_name, last_said, told_of, listing_text}
 
 -- ---- one text

@@ -6,7 +6,7 @@ use Rattle.packet_codec.specs.Grammar.{AreBytes}
 use Rattle.packet_codec.specs.declared.event.Event.{Event}
 use Rattle.packet_codec.specs.declared.event.FilePart.{FilePart}
 use Rattle.stream_reader.specs.Notes.{HasEvents}
-use Rattle.sub_text.specs.Texts.{newline, whole_lines}
+use Rattle.outcome_fold.specs.Lines.{newline, whole_lines}
 
 -- ---- how much is told
 

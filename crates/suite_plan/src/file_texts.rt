@@ -1,7 +1,7 @@
 //! What the files of events say, one behind another.
 
 ghost use Rattle.std.specs.Prelude.{◌≡◌, ◌++◌, IfOk, OnOk, if◌then◌else◌};
-ghost use Rattle.sub_text.specs.Texts.{whole_lines};
+ghost use Rattle.outcome_fold.specs.Lines.{whole_lines};
 ghost use Rattle.suite_plan.specs.Listed.{HasSaying};
 ghost use Rattle.suite_plan.specs.Saying.{ListingText, follows_on, name_line, nothing_said, plain_name, told_of, with_file, with_some};
 

@@ -1,10 +1,11 @@
 //! The last bytes of a text, which are what is told of it.
 
 ghost use Rattle.std.specs.Prelude.{◌≡◌, ◌≤◌, ◌<◌, ◌+◌, ◌++◌, ℕ, List, length, codes, IfOk, OnOk};
-ghost use Rattle.sub_text.specs.Texts.{newline, whole_lines};
+ghost use Rattle.outcome_fold.specs.Lines.{newline, whole_lines};
 ghost use Rattle.suite_plan.specs.Saying.{last_said, told_of, name_line};
 
 use crate::output::Taker;
+use outcome_fold::line_end;
 use std::alloc::Global;
 use sub_number::{Bytes, NoMemory};
 
@@ -142,17 +143,6 @@ impl Taker for Tail {
 
     fn take(&mut self, piece: &[u8]) -> Result<(), NoMemory> {
         self.add(piece)
-    }
-}
-
-// The end of the line that these bytes end within, if they do.
-fn line_end(bytes: &[u8]) -> &'static [u8]
-    ensures { bytes.now ++ result.now ≡ whole_lines bytes.now }
-{
-    if bytes.is_empty() || bytes.ends_with(b"\n") {
-        b""
-    } else {
-        b"\n"
     }
 }
 

@@ -1,4 +1,4 @@
-use Rattle.sub_text.specs.Texts.{whole_lines}
+use Rattle.outcome_fold.specs.Lines.{whole_lines}
 use Rattle.suite_plan.proofs.tail.Tail.into_told.Goals as goal
 
 pub returns : goal.returns
