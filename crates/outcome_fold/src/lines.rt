@@ -11,7 +11,7 @@ pub(crate) fn ends_its_line(text: &[u8]) -> bool
 }
 
 /// The end of the line that the text ends within, if it does: a newline, or nothing.
-pub fn line_end(text: &[u8]) -> &'static [u8]
+pub fn line_end<'a>(text: &[u8]) -> &'a [u8]
     ensures { result.now ≡ lines.line_end text.now }
 {
     if ends_its_line(text) { b"" } else { b"\n" }
