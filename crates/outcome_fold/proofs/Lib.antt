@@ -18,7 +18,9 @@ pub mod TotalLemmas
 pub mod LawLemmas
 pub mod RouteLemmas
 pub mod MergedLemmas
+pub mod StrictLemmas
 pub mod LongestLemmas
+pub mod LastsLemmas
 pub mod SummedLemmas
 pub mod SummingLemmas
 pub mod ChangedLemmas

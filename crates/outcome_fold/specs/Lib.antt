@@ -4,6 +4,7 @@ pub mod Lines
 pub mod Files
 pub mod Rows
 pub mod Answers
+pub mod Longest
 pub mod Started
 pub mod Folded
 pub mod Grouped

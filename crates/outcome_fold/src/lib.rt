@@ -38,6 +38,7 @@ pub use fold::{Fold, Outcomes};
 pub use half_laws::halves_say_the_same;
 pub use laws::{orders_of_maps, rows_are_by_route, rows_of_events};
 pub use lines::line_end;
+pub use longest_times::keep_longest;
 pub use part::{
     EndedPart, KeptText, Started, elapsed, file_name_in, instant_in, instant_of, reason_heard,
     reason_in, text_heard, text_in,

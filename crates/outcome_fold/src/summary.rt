@@ -27,8 +27,8 @@ pub struct Timed<'r> {
     pub nanos: u64,
 }
 
-/// What the rows of a run say together. Of the rows themselves it keeps those alone that fail, so that it does not grow
-/// with a run of the same tests that pass.
+/// What the rows of a run say together. Of the rows themselves it keeps those alone that fail, so that it does not grow beyond
+/// a bound with a run of the same tests that pass.
 #[derive(Drop)]
 pub struct Summary {
     pub(crate) failing: Vec<Row>,
@@ -58,7 +58,8 @@ impl Summary {
         }
     }
 
-    /// Takes one row more. Of its id one copy is made, where it fails; else it is moved, or let go where it is known.
+    /// Takes one row more. Of its id one copy is made, where it fails; else it is moved. An id without a time is let go where it
+    /// is known.
     ///
     /// `NoMemory` comes for want of memory, and where a count or the sum of the times has no room for a row more. Nothing is
     /// known then of what is kept.
@@ -115,16 +116,18 @@ impl Summary {
         Ok(())
     }
 
-    /// The same of the rows route by route, no route first, and those of one route in their order.
+    /// The same of the rows route by route, no route first, and those of one route in their order. The times are put in order as
+    /// well, so that those who list them find them so.
     pub(crate) fn in_order(self, alloc: Global) -> Result<Self, NoMemory>
         ensures { (filter_tags : List (List ℕ)) (rows : List ARow) → Sums filter_tags rows self → IfOk result (Sums filter_tags (rows_are.by_route rows)) }
     {
         let Summary {
             failing,
             counts,
-            times,
+            mut times,
             untimed,
         } = self;
+        times.settle();
         Ok(Summary {
             failing: by_route(alloc, failing)?,
             counts,

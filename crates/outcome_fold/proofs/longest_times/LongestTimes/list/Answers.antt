@@ -1,19 +1,23 @@
-use Rattle.std.proofs.Common.{◌∙◌, ap, sym}
+use Rattle.std.proofs.Common.{◌∙◌, ap, map}
 use Rattle.std.specs.FinMap as fin
-use Rattle.std.specs.Map.Iter.{deref_pair}
-use Rattle.std.proofs.lemmas.Map.Iter.{iter_end}
-use Rattle.outcome_fold.proofs.OrderLemmas.{texts_total}
-use Rattle.outcome_fold.proofs.TableLemmas.{entries_in_order}
-use Rattle.outcome_fold.proofs.LongestLemmas.{shown_more, texts_more}
+use Rattle.std.proofs.lemmas.List.Sorted.{All-permutation}
+use Rattle.std.proofs.lemmas.Result.{IfOk-weaker}
+use Rattle.outcome_fold.specs.Longest.{kept_time, longest_in, last_of_each}
+use Rattle.outcome_fold.specs.Summed.{shown_time}
+use Rattle.outcome_fold.proofs.LastsLemmas.{IsShort, sorted_shown, sorted_entries, texts_kept}
 use Rattle.outcome_fold.proofs.longest_times.LongestTimes.list.Goals as goal
-
-pub loop-id-preserved : goal.loop-id-preserved
-loop-id-preserved c = record {
-  shown = shown_more deref_pair _ _ c.loop-id.yielded (c.in-Some.id, c.in-Some.nanos) c.timed.result c.in_ok-push.ensures.items c.timed.ensures.shown c.loop-id.invariant.shown;
-  texts = texts_more _ _ c.timed.result c.in_ok-push.ensures.items (rw (c.timed.ensures.shown.0) c.timed.ensures.text) c.loop-id.invariant.texts;
-}
 
 pub returns-clause-times : goal.returns-clause-times
 returns-clause-times c =
-    let all = (iter_end deref_pair c.self.inside.times.entries _ _ _ _ _ c.into_iter-id-iterator.ensures.into_iter_gives.0 c.loop-id.yielded_by c.in-None.is c.next.ensures.steps).0 in
-    c.loop-id.invariant.shown ∙ all ∙ sym (entries_in_order texts_total _ c.len.ensures.ordered) ∙ ap fin.entries c.self.view_is
+    IfOk-weaker c.keep_longest.result _ _
+    (λ times is.
+    is ∙ ap (λ sorted. last_of_each (map shown_time sorted)) c.deref-2.ensures.value
+    ∙ sorted_entries _ _ (sorted_shown shown_time _ _ _ c.in_ok-sorted.ensures.times c.sort_unstable.ensures.permutation c.sort_unstable.ensures.sorted)
+    ∙ ap fin.entries (ap (λ items. longest_in (map kept_time items)) c.deref.ensures.value ∙ c.self.view_is)) c.keep_longest.ensures
+
+pub returns-clause-texts : goal.returns-clause-texts
+returns-clause-texts c =
+    IfOk-weaker c.keep_longest.result _ _
+    (λ times is.
+    texts_kept shown_time _ times.items (is ∙ ap (λ sorted. last_of_each (map shown_time sorted)) c.deref-2.ensures.value)
+    (All-permutation (IsShort shown_time) _ _ c.sort_unstable.ensures.permutation c.in_ok-sorted.ensures.texts)) c.keep_longest.ensures

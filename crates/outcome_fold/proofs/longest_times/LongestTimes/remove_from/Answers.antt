@@ -1,19 +1,18 @@
-use Rattle.std.proofs.Common.{◌∙◌, sym, ap}
-use Rattle.std.specs.Map.Iter.{deref}
-use Rattle.std.proofs.lemmas.Map.Iter.{iter_end}
+use Rattle.std.proofs.Common.{◌∙◌, ap, map}
+use Rattle.std.specs.FinMap as fin
 use Rattle.outcome_fold.specs.Order.{without}
-use Rattle.outcome_fold.proofs.OrderLemmas.{texts_total}
-use Rattle.outcome_fold.proofs.TableLemmas.{keys_in_order}
-use Rattle.outcome_fold.proofs.SetLemmas.{without_none, one_removed}
+use Rattle.outcome_fold.specs.Longest.{kept_time, longest_in}
+use Rattle.outcome_fold.proofs.SetLemmas.{without_none}
+use Rattle.outcome_fold.proofs.LongestLemmas.{more_removed, all_removed}
 use Rattle.outcome_fold.proofs.longest_times.LongestTimes.remove_from.Goals as goal
 
-pub loop-id-init : goal.loop-id-init
-loop-id-init c = without_none _
+pub loop-time-init : goal.loop-time-init
+loop-time-init c = without_none _
 
-pub loop-id-preserved : goal.loop-id-preserved
-loop-id-preserved c = one_removed deref _ _ _ c.loop-id.yielded c.in-Some.id c.remove.ensures c.loop-id.invariant
+pub loop-time-preserved : goal.loop-time-preserved
+loop-time-preserved c = more_removed kept_time _ _ _ _ c.loop-time.invariant _ c.time-item.result c.loop-time-test.true c.time-item.is c.remove.ensures
 
 pub returns : goal.returns
 returns c =
-    let all = (iter_end deref _ _ _ _ _ _ (c.into_iter-id-iterator.ensures.into_iter_gives ∙ c.keys-id-items.ensures.rest) c.loop-id.yielded_by c.in-None.is c.next.ensures.steps).0 in
-    rw (← c.self.view_is) (c.loop-id.invariant ∙ ap (without c.args.ids.now) (all ∙ sym (keys_in_order texts_total _ c.keys-id-items.ensures.ordered)))
+    all_removed kept_time _ _ _ _ c.loop-time.invariant c.loop-time-test.false
+    ∙ ap (λ times. without c.args.ids.now (fin.keys times)) (ap (λ items. longest_in (map kept_time items)) c.deref-time-items.ensures.value ∙ c.self.view_is)
