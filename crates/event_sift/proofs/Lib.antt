@@ -1,4 +1,5 @@
 pub mod HeldLemmas
+pub mod KeepingLemmas
 pub mod PacketLemmas
 pub mod PartLemmas
 pub mod SiftLemmas

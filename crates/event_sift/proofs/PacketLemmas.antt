@@ -18,9 +18,14 @@ use Rattle.outcome_fold.specs.declared.row.Ended.{Ended}
 use Rattle.outcome_fold.specs.declared.row.Ended.TheVariants as ended
 use Rattle.outcome_fold.specs.declared.row.Row.{Row}
 use Rattle.outcome_fold.specs.declared.test_key.TestKey.{TestKey}
+use Rattle.outcome_fold.specs.declared.part.EndedPart.{EndedPart}
 use Rattle.outcome_fold.specs.Order.{test_cmp, table}
-use Rattle.outcome_fold.specs.Parts.{test_of, ended_by}
-use Rattle.outcome_fold.specs.Rows.{completed_row, open_rows, open_tests, part_with, row_completing, row_of}
+use Rattle.outcome_fold.specs.EndedParts.{completed_part, open_parts, part_of_open, row_of_part}
+use Rattle.outcome_fold.specs.Parts.{test_of, ended_by, start_of}
+use Rattle.outcome_fold.specs.Rows.{completed_row, open_tests, part_with, row_completing, row_of}
+use Rattle.outcome_fold.specs.Started.{started_of}
+use Rattle.outcome_fold.specs.Folded.{row_at}
+use Rattle.outcome_fold.proofs.EndedLemmas.{row_is}
 use Rattle.outcome_fold.proofs.OrderLemmas.{tests_total, exact_tests}
 use Rattle.outcome_fold.proofs.TableLemmas.{tied_is, get-table, lookup_in_map, none_of_length}
 use Rattle.outcome_fold.proofs.StepLemmas.{flat_map_push}
@@ -31,6 +36,7 @@ use Rattle.event_sift.specs.Released.{kept_open, part_at, released, released_at_
 use Rattle.event_sift.specs.Sifted.{open_part_events}
 use Rattle.event_sift.specs.PacketSifted.{begun_at, with_packet, open_packets, packets_if_kept, with_last}
 use Rattle.event_sift.proofs.HeldLemmas as held
+use Rattle.event_sift.proofs.SiftLemmas as sift
 
 abbrev HeldByTest : Type 0
 HeldByTest = FinMap test_cmp (List ℕ)
@@ -197,6 +203,14 @@ an_end t (Some by) seen e row some = (by, refl)
 of_test : (seen : List Event) (e : Event) (t : TestKey) (row : Option Row) → test_of e ≡ Some t → row ≡ completed_row seen e → row ≡ row_completing (Some t) (ended_by e.status) seen e
 of_test seen e t row test is = is ∙ ap (λ o. row_completing o (ended_by e.status) seen e) test
 
+-- A part gives a row, and what completes none gives none.
+
+pub its_row : (seen : List Event) (e : Event) (part : EndedPart) → ◌≡◌ {A = Option EndedPart} (Some part) (completed_part seen e) → ◌≡◌ {A = Option Row} (Some (row_of_part part)) (completed_row seen e)
+its_row seen e part is = row_is seen e (Some part) (Some (row_of_part part)) is refl
+
+pub no_row : (seen : List Event) (e : Event) → ◌≡◌ {A = Option EndedPart} None (completed_part seen e) → ◌≡◌ {A = Option Row} None (completed_row seen e)
+no_row seen e is = row_is seen e None None is refl
+
 -- a packet that gives no row is one more of its test's
 pub goes_on : (seen : List Event) (e : Event) (t : TestKey) (next : HeldByTest) → test_of e ≡ Some t → None ≡ completed_row seen e → next ≡ fin.insert (open_packets seen) t (packets_at (open_packets seen) t ++ canonical e) → next ≡ open_packets (seen ++ e ∷ [])
 goes_on seen e t next test none put =
@@ -240,15 +254,22 @@ packets_flat : {A : Type 0} (f : A → List Event) (xs : List A) → packets_of 
 packets_flat f [] = refl
 packets_flat f (x ∷ xs) = flat_map-append canonical (f x) (flat_map f xs) ∙ ap (λ l. packets_of (f x) ++ l) (packets_flat f xs)
 
-pub at_end : (kept : Row → Bool) (seen : List Event) (packets : HeldByTest) (rows : List Row) → packets ≡ open_packets seen → rows ≡ open_rows seen → flat_map (packets_if_kept kept packets) rows ≡ packets_of (released_at_end kept seen)
-at_end kept seen packets rows same are =
+-- the row of the part of an open test
+open_row : (seen : List Event) (t : TestKey) → row_of_part (part_of_open t (started_of (part_at seen t))) ≡ row_of t ended.Open None (part_at seen t)
+open_row seen t = ap (λ nanos. row_at t ended.Open nanos (started_of (part_at seen t))) (sift.no_end (start_of (part_at seen t)))
+
+pub at_end : (kept : Row → Bool) (seen : List Event) (packets : HeldByTest) (parts : List EndedPart) → packets ≡ open_packets seen → parts ≡ open_parts seen
+    → flat_map (λ part. packets_if_kept kept packets (row_of_part part)) parts ≡ packets_of (released_at_end kept seen)
+at_end kept seen packets parts same are =
     let tests : List (TestKey × TestKey) = fin.entries (table {R = test_cmp} (λ test. test) (open_tests seen)) in
-    let row : TestKey → Row = λ test. row_of test ended.Open None (part_at seen test) in
-    (λ i. flat_map (packets_if_kept kept (same i)) (are i))
-    ∙ ap (λ (es : List (TestKey × Row)). flat_map (packets_if_kept kept (open_packets seen)) (map (λ e. e.1) es)) (table_with exact_tests (λ test other. row test) tests_total (λ test. test) (open_tests seen))
-    ∙ flat_map-map (packets_if_kept kept (open_packets seen)) (λ (e : TestKey × Row). e.1) (map (λ (e : TestKey × TestKey). (e.0, row e.0)) tests)
-    ∙ flat_map-map (λ (e : TestKey × Row). packets_if_kept kept (open_packets seen) e.1) (λ (e : TestKey × TestKey). (e.0, row e.0)) tests
-    ∙ (λ i. flat_map (λ (e : TestKey × TestKey). where_kept (kept (row e.0)) (part_at seen e.0) (packets_at (open_packets seen) e.0) (packets_of_part seen e.0) i) tests)
+    let part : TestKey → EndedPart = λ test. part_of_open test (started_of (part_at seen test)) in
+    let gives : EndedPart → List ℕ = λ part. packets_if_kept kept (open_packets seen) (row_of_part part) in
+    (λ i. flat_map (λ part. packets_if_kept kept (same i) (row_of_part part)) (are i))
+    ∙ ap (λ (es : List (TestKey × EndedPart)). flat_map gives (map (λ e. e.1) es)) (table_with exact_tests (λ test other. part test) tests_total (λ test. test) (open_tests seen))
+    ∙ flat_map-map gives (λ (e : TestKey × EndedPart). e.1) (map (λ (e : TestKey × TestKey). (e.0, part e.0)) tests)
+    ∙ flat_map-map (λ (e : TestKey × EndedPart). gives e.1) (λ (e : TestKey × TestKey). (e.0, part e.0)) tests
+    ∙ (λ i. flat_map (λ (e : TestKey × TestKey). packets_if_kept kept (open_packets seen) (open_row seen e.0 i)) tests)
+    ∙ (λ i. flat_map (λ (e : TestKey × TestKey). where_kept (kept (row_of e.0 ended.Open None (part_at seen e.0))) (part_at seen e.0) (packets_at (open_packets seen) e.0) (packets_of_part seen e.0) i) tests)
     ∙ sym (ap (λ (es : List (TestKey × List Event)). packets_of (flat_map (λ part. part) (map (λ e. e.1) es))) (table_with exact_tests (λ test other. kept_open kept seen test) tests_total (λ test. test) (open_tests seen))
     ∙ ap packets_of (flat_map-map (λ (part : List Event). part) (λ (e : TestKey × List Event). e.1) (map (λ (e : TestKey × TestKey). (e.0, kept_open kept seen e.0)) tests)
     ∙ flat_map-map (λ (e : TestKey × List Event). e.1) (λ (e : TestKey × TestKey). (e.0, kept_open kept seen e.0)) tests)

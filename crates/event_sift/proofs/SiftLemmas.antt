@@ -48,7 +48,8 @@ is_not_kept kept row other part events same so is = is ∙ ap (λ b. cond b part
 
 -- At the end.
 
-no_end : (start : Option ℕ) → elapsed start None ≡ None
+-- without an end there is no time
+pub no_end : (start : Option ℕ) → elapsed start None ≡ None
 no_end None = refl
 no_end (Some start) = refl
 

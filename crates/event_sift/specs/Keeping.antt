@@ -1,11 +1,10 @@
--- Which rows are kept (docs/FORMATS.md, "subunit-filter").
+-- Which tests are kept (docs/FORMATS.md, "subunit-filter").
 use Rattle.std.specs.Prelude.{ℕ, Bool, true, ◌&&◌, ◌||◌, not, List, length, nat_eq, ◌==◌}
 use Rattle.std.specs.List.{list_any, list_all}
 use Rattle.std.specs.Cmp.Lexicographic.{pointwise}
 use Rattle.outcome_fold.specs.declared.row.Ended.{Ended}
 use Rattle.outcome_fold.specs.declared.row.Ended.TheVariants as ended
 use Rattle.outcome_fold.specs.declared.row.Row.{Row}
-use Rattle.outcome_fold.specs.Answers.{has_one_of}
 use Rattle.partition_times.specs.Patterns.{is_found}
 use Rattle.event_sift.specs.declared.rules.Rules.{Rules}
 
@@ -20,13 +19,13 @@ allows rules ended.Fail = rules.failure
 allows rules ended.XFail = rules.xfail
 allows rules ended.Open = rules.failure
 
--- the row has this tag
-abbrev pub has_tag : Row → List ℕ → Bool
-has_tag row tag = list_any (λ own. pointwise nat_eq own tag) row.tags
+-- the tag is one of these
+abbrev pub has_tag : List (List ℕ) → List ℕ → Bool
+has_tag tags tag = list_any (λ own. pointwise nat_eq own tag) tags
 
--- the row has every tag that is asked for, and none of those that are not wanted
-abbrev pub keeps_tags : Rules → Row → Bool
-keeps_tags rules row = list_all (has_tag row) rules.with_tags && not (has_one_of rules.without_tags row)
+-- every tag that is asked for is one of these, and no tag that is not wanted
+abbrev pub keeps_tags : Rules → List (List ℕ) → Bool
+keeps_tags rules tags = list_all (has_tag tags) rules.with_tags && not (list_any (has_tag tags) rules.without_tags)
 
 -- some of the patterns is found in the id, where there are any
 abbrev pub has_wanted : List (List ℕ) → List ℕ → Bool
@@ -36,6 +35,10 @@ has_wanted patterns id = (length patterns == 0) || is_found patterns id
 abbrev pub has_wanted_id : Rules → List ℕ → Bool
 has_wanted_id rules id = has_wanted rules.with_ids id
 
--- The rules keep the row: by how it ended, by its tags, and by its id.
+-- The rules keep a test of this id, by how it ended, by its tags, and by the id. The tags count in any order.
+abbrev pub keeps_test : Rules → List ℕ → Ended → List (List ℕ) → Bool
+keeps_test rules id how tags = allows rules how && (keeps_tags rules tags && (has_wanted_id rules id && not (is_found rules.without_ids id)))
+
+-- the rules keep the test of the row
 abbrev pub keeps : Rules → Row → Bool
-keeps rules row = allows rules row.ended && (keeps_tags rules row && (has_wanted_id rules row.id && not (is_found rules.without_ids row.id)))
+keeps rules row = keeps_test rules row.id row.ended row.tags

@@ -1,13 +1,13 @@
 //! Which events of a stream a filter lets through, and what tags it gives them.
 //!
-//! The rules stand in docs/FORMATS.md under "subunit-filter" and "subunit-tags". `specs/` states them of rows, of single
+//! The rules stand in docs/FORMATS.md under "subunit-filter" and "subunit-tags". `specs/` states them of tests, of single
 //! events, and of whole lists of events. What speaks of a test is held from the first event of the test until one completes
 //! it, as events or as the bytes of their packets.
 //!
 //! For want of memory a public call answers `NoMemory`, which comes for nothing else; what it was lent is then as
 //! before, where it does not say otherwise.
 //!
-//! - `rules`, `predicate`: which rows are kept, and what says so of one after another
+//! - `rules`, `predicate`: which tests are kept, and what says so of one after another
 //! - `part`, `open_events`: the events of the open tests
 //! - `part_row`: the row of some events of a test
 //! - `sift`: what is released as events come, and at the end

@@ -8,15 +8,14 @@ ghost use Rattle.packet_codec.specs.Canonical.{packets_of};
 ghost use Rattle.event_sift.specs.Keeping.{keeps};
 ghost use Rattle.event_sift.specs.Released.{released, released_at_end};
 ghost use Rattle.outcome_fold.specs.Folded.{HasSeen};
-ghost use Rattle.outcome_fold.specs.Rows.{completed_row};
-ghost use Rattle.outcome_fold.specs.TestPackets.{test_of_row};
+ghost use Rattle.outcome_fold.specs.EndedParts.{completed_part, row_of_part};
 ghost use Rattle.event_sift.specs.declared.held_packets.HeldTest.{HeldTest as AHeldTest};
 ghost use Rattle.event_sift.specs.PacketSifted.{HasSiftedPackets, IsNext, open_packets, other_packets_in, packets_if_kept, held_packets_in, packet_predicate_of, packet_rules_of};
 
 use crate::held_packets::HeldPackets;
 use crate::predicate::Predicate;
 use crate::rules::Rules;
-use outcome_fold::{Fold, Row, TestKey, key_in};
+use outcome_fold::{EndedPart, Fold, key_in};
 use packet_codec::Packet;
 use std::alloc::Global;
 use sub_number::NoMemory;
@@ -54,50 +53,51 @@ impl<'a, P: Predicate + Drop> PacketSift<'a, P> {
         }
     }
 
-    // Whether the row's test is kept, by the predicate.
-    fn is_kept(&mut self, row: &Row) -> Result<bool, NoMemory>
+    // Whether the test of the part is kept, by the predicate. No row is made of it.
+    fn keeps_part(&mut self, part: &EndedPart) -> Result<bool, NoMemory>
         requires faithful { P.rules (packet_predicate_of self.old) ≡ packet_rules_of self.old }
-        ensures kept { IfOk result (λ kept. kept ≡ keeps (packet_rules_of self.old) row.now) }
+        ensures kept { IfOk result (λ kept. kept ≡ keeps (packet_rules_of self.old) (row_of_part part.now)) }
         ensures held { self.new.held ≡ self.old.held }
         ensures fold { self.new.fold ≡ self.old.fold }
         ensures rules { packet_rules_of self.new ≡ packet_rules_of self.old }
         ensures predicate { P.rules (packet_predicate_of self.new) ≡ P.rules (packet_predicate_of self.old) }
     {
-        self.predicate.is_kept(row)
+        self.predicate
+            .is_kept(&part.key.id, part.ended, &part.started.tags)
     }
 
-    // Takes the packet, whose test was heard last. It gives this row, or none.
+    // Takes the packet, whose test was heard last. It completes this part, or none.
     fn hear_last(
         &mut self,
         packet: &Packet<'_>,
-        row: &Option<Row>,
+        part: &Option<EndedPart>,
         out: &mut Vec<u8>,
     ) -> Result<(), NoMemory>
         requires faithful { P.rules (packet_predicate_of self.old) ≡ packet_rules_of self.old }
-        ensures released { (seen : List AnEvent) (e : AnEvent) (last : AHeldTest) → SpellsEvent packet.now e → row.now ≡ completed_row seen e → IsNext self.old.held seen e last → OnOk result (out.new.items ≡ out.old.items ++ packets_of (released (keeps (packet_rules_of self.old)) seen e)) }
-        ensures held { (seen : List AnEvent) (e : AnEvent) (last : AHeldTest) → SpellsEvent packet.now e → row.now ≡ completed_row seen e → IsNext self.old.held seen e last → OnOk result (held_packets_in self.new.held ≡ open_packets (seen ++ e ∷ [])) }
+        ensures released { (seen : List AnEvent) (e : AnEvent) (last : AHeldTest) → SpellsEvent packet.now e → part.now ≡ completed_part seen e → IsNext self.old.held seen e last → OnOk result (out.new.items ≡ out.old.items ++ packets_of (released (keeps (packet_rules_of self.old)) seen e)) }
+        ensures held { (seen : List AnEvent) (e : AnEvent) (last : AHeldTest) → SpellsEvent packet.now e → part.now ≡ completed_part seen e → IsNext self.old.held seen e last → OnOk result (held_packets_in self.new.held ≡ open_packets (seen ++ e ∷ [])) }
         ensures fold { self.new.fold ≡ self.old.fold }
         ensures rules { packet_rules_of self.new ≡ packet_rules_of self.old }
         ensures predicate { P.rules (packet_predicate_of self.new) ≡ P.rules (packet_predicate_of self.old) }
     {
-        let Some(row) = row else {
+        let Some(part) = part else {
             return self.held.go_on(packet);
         };
-        let kept = self.is_kept(row)?;
+        let kept = self.keeps_part(part)?;
         self.held.finish(packet, kept, out)
     }
 
-    // Takes the packet, whatever test its event speaks of. It gives this row, or none.
+    // Takes the packet, whatever test its event speaks of. It completes this part, or none.
     #[inline(never)]
     fn hear_other(
         &mut self,
         packet: &Packet<'_>,
-        row: &Option<Row>,
+        part: &Option<EndedPart>,
         out: &mut Vec<u8>,
     ) -> Result<(), NoMemory>
         requires faithful { P.rules (packet_predicate_of self.old) ≡ packet_rules_of self.old }
-        ensures released { (seen : List AnEvent) (e : AnEvent) → SpellsEvent packet.now e → row.now ≡ completed_row seen e → held_packets_in self.old.held ≡ open_packets seen → OnOk result (out.new.items ≡ out.old.items ++ packets_of (released (keeps (packet_rules_of self.old)) seen e)) }
-        ensures held { (seen : List AnEvent) (e : AnEvent) → SpellsEvent packet.now e → row.now ≡ completed_row seen e → held_packets_in self.old.held ≡ open_packets seen → OnOk result (held_packets_in self.new.held ≡ open_packets (seen ++ e ∷ [])) }
+        ensures released { (seen : List AnEvent) (e : AnEvent) → SpellsEvent packet.now e → part.now ≡ completed_part seen e → held_packets_in self.old.held ≡ open_packets seen → OnOk result (out.new.items ≡ out.old.items ++ packets_of (released (keeps (packet_rules_of self.old)) seen e)) }
+        ensures held { (seen : List AnEvent) (e : AnEvent) → SpellsEvent packet.now e → part.now ≡ completed_part seen e → held_packets_in self.old.held ≡ open_packets seen → OnOk result (held_packets_in self.new.held ≡ open_packets (seen ++ e ∷ [])) }
         ensures fold { self.new.fold ≡ self.old.fold }
         ensures rules { packet_rules_of self.new ≡ packet_rules_of self.old }
         ensures predicate { P.rules (packet_predicate_of self.new) ≡ P.rules (packet_predicate_of self.old) }
@@ -106,7 +106,7 @@ impl<'a, P: Predicate + Drop> PacketSift<'a, P> {
             return packet.put_shortest(out);
         };
         self.held.turn_to(key)?;
-        self.hear_last(packet, row, out)
+        self.hear_last(packet, part, out)
     }
 
     /// Takes the event that the packet spells, and appends the packets that are released now. The packet of an event
@@ -122,44 +122,44 @@ impl<'a, P: Predicate + Drop> PacketSift<'a, P> {
         ensures rules { packet_rules_of self.new ≡ packet_rules_of self.old }
         ensures predicate { P.rules (packet_predicate_of self.new) ≡ P.rules (packet_predicate_of self.old) }
     {
-        let row = self.fold.hear(packet)?;
+        let part = self.fold.hear_part(packet)?;
         if self.held.holds(packet) {
-            return self.hear_last(packet, &row, out);
+            return self.hear_last(packet, &part, out);
         }
-        self.hear_other(packet, &row, out)
+        self.hear_other(packet, &part, out)
     }
 
-    // Appends the packets of the row's open test, where it is kept.
+    // Appends the packets of the open test of the part, where it is kept.
     fn release_open(
         &mut self,
-        row: Row,
+        part: &EndedPart,
         held: &HeldPackets,
         out: &mut Vec<u8>,
     ) -> Result<(), NoMemory>
         requires faithful { P.rules (packet_predicate_of self.old) ≡ packet_rules_of self.old }
-        ensures released { OnOk result (out.new.items ≡ out.old.items ++ packets_if_kept (keeps (packet_rules_of self.old)) (other_packets_in held.now) row) }
+        ensures released { OnOk result (out.new.items ≡ out.old.items ++ packets_if_kept (keeps (packet_rules_of self.old)) (other_packets_in held.now) (row_of_part part.now)) }
         ensures rules { packet_rules_of self.new ≡ packet_rules_of self.old }
         ensures predicate { P.rules (packet_predicate_of self.new) ≡ P.rules (packet_predicate_of self.old) }
     {
-        if self.is_kept(&row)? {
-            held.put(&key_of_row(row), out)
+        if self.keeps_part(part)? {
+            held.put(&part.key, out)
         } else {
             Ok(())
         }
     }
 
-    // Appends the packets of the rows' open tests that are kept.
+    // Appends the packets of the open tests of the parts, of those that are kept.
     fn release_all(
         &mut self,
-        rows: Vec<Row>,
+        parts: Vec<EndedPart>,
         held: &HeldPackets,
         out: &mut Vec<u8>,
     ) -> Result<(), NoMemory>
         requires faithful { P.rules (packet_predicate_of self.old) ≡ packet_rules_of self.old }
-        ensures { OnOk result (out.new.items ≡ out.old.items ++ flat_map (packets_if_kept (keeps (packet_rules_of self.old)) (other_packets_in held.now)) rows.items) }
+        ensures { OnOk result (out.new.items ≡ out.old.items ++ flat_map (λ part. packets_if_kept (keeps (packet_rules_of self.old)) (other_packets_in held.now) (row_of_part part)) parts.items) }
     {
-        for row in rows {
-            self.release_open(row, held, out)?;
+        for part in parts {
+            self.release_open(&part, held, out)?;
         }
         Ok(())
     }
@@ -175,8 +175,8 @@ impl<'a, P: Predicate + Drop> PacketSift<'a, P> {
         ensures { (seen : List AnEvent) → HasSeen fold seen → held_packets_in held ≡ open_packets seen → OnOk result (out.new.items ≡ out.old.items ++ packets_of (released_at_end (keeps (packet_rules_of self.old)) seen)) }
     {
         held.set_aside()?;
-        let rows = fold.close()?;
-        self.release_all(rows, &held, out)
+        let parts = fold.close_parts()?;
+        self.release_all(parts, &held, out)
     }
 
     /// Ends the sift, and appends the packets of the open tests that are kept, by route, no route first, and then by id.
@@ -216,20 +216,4 @@ impl<'a, P: Predicate + Drop> PacketSift<'a, P> {
             held: _held,
         } = self;
     }
-}
-
-// The test of the row.
-fn key_of_row(row: Row) -> TestKey
-    ensures { result ≡ test_of_row row }
-{
-    let Row {
-        id,
-        route,
-        ended: _,
-        tags: _,
-        nanos: _,
-        text: _,
-        reason: _,
-    } = row;
-    TestKey { route, id }
 }

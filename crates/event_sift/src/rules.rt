@@ -1,8 +1,7 @@
-//! The rules by which rows are kept.
+//! The rules by which tests are kept.
 
 ghost use Rattle.std.specs.Prelude.{◌≡◌, ◌&&◌, not, IfOk};
-ghost use Rattle.std.specs.List.{list_all};
-ghost use Rattle.outcome_fold.specs.Answers.{has_one_of};
+ghost use Rattle.std.specs.List.{list_all, list_any};
 ghost use Rattle.partition_times.specs.Patterns.{is_found};
 ghost use Rattle.event_sift.specs.Keeping as keeping;
 ghost use Rattle.event_sift.specs.Keeping.{has_wanted};
@@ -14,7 +13,7 @@ use partition_times::{Filters, Finder};
 use std::alloc::Global;
 use sub_number::{NoMemory, Text};
 
-/// What a row must be to be kept, as docs/FORMATS.md says under "subunit-filter".
+/// What a test must be to be kept, as docs/FORMATS.md says under "subunit-filter".
 #[derive(Drop)]
 pub struct Rules {
     /// Whether tests that passed are kept.
@@ -25,9 +24,9 @@ pub struct Rules {
     pub skip: bool,
     /// Whether failures that were expected are kept.
     pub xfail: bool,
-    /// The tags that a row must have, each of them.
+    /// The tags that a test must have, each of them.
     pub with_tags: Tags,
-    /// The tags that a row must not have, none of them.
+    /// The tags that a test must not have, none of them.
     pub without_tags: Tags,
     /// The patterns of which one must be found in the id, where there are any.
     pub with_ids: Filters,
@@ -48,25 +47,25 @@ fn allows(rules: &Rules, ended: Ended) -> bool
     }
 }
 
-// Whether the row has each of the tags.
-fn has_each(tags: &[Text], row: &Row) -> bool
-    ensures { result ≡ list_all (keeping.has_tag row.now) tags.now }
+// Whether each of the tags is among a test's own.
+fn has_each(tags: &[Text], own: &[Text]) -> bool
+    ensures { result ≡ list_all (keeping.has_tag own.now) tags.now }
 {
-    tags.iter().all(|tag| row.tags.list().contains(tag))
+    tags.iter().all(|tag| own.contains(tag))
 }
 
-// Whether the row has one of the tags.
-fn has_one(tags: &[Text], row: &Row) -> bool
-    ensures { result ≡ has_one_of tags.now row.now }
+// Whether one of the tags is among a test's own.
+fn has_one(tags: &[Text], own: &[Text]) -> bool
+    ensures { result ≡ list_any (keeping.has_tag own.now) tags.now }
 {
-    tags.iter().any(|tag| row.tags.list().contains(tag))
+    tags.iter().any(|tag| own.contains(tag))
 }
 
-// Whether the row's tags are as they must be.
-fn keeps_tags(rules: &Rules, row: &Row) -> bool
-    ensures { result ≡ keeping.keeps_tags rules.now row.now }
+// Whether a test's own tags are as they must be.
+fn keeps_tags(rules: &Rules, own: &[Text]) -> bool
+    ensures { result ≡ keeping.keeps_tags rules.now own.now }
 {
-    has_each(rules.with_tags.list(), row) && !has_one(rules.without_tags.list(), row)
+    has_each(rules.with_tags.list(), own) && !has_one(rules.without_tags.list(), own)
 }
 
 // Whether one of the patterns that are asked for is found in the id, where there are any.
@@ -77,7 +76,7 @@ fn has_wanted_id(with_ids: &mut Finder<'_>, id: &Text) -> bool
     with_ids.is_empty() || with_ids.found(id)
 }
 
-/// Rules as a predicate: what looks for their patterns is made once, for all rows.
+/// Rules as a predicate: what looks for their patterns is made once, for all tests.
 #[derive(Drop)]
 pub struct ByRules<'r> {
     rules: &'r Rules,
@@ -117,17 +116,17 @@ impl<'r> Predicate for ByRules<'r> {
 
     ghost rules = { rules_asked };
 
-    fn is_kept(&mut self, row: &Row) -> Result<bool, NoMemory> {
-        Ok(allows(self.rules, row.ended) && keeps_tags(self.rules, row) && self.keeps_id(&row.id))
+    fn is_kept(&mut self, id: &Text, ended: Ended, tags: &Tags) -> Result<bool, NoMemory> {
+        Ok(allows(self.rules, ended) && keeps_tags(self.rules, tags.list()) && self.keeps_id(id))
     }
 }
 
-/// Whether the rules keep the row. They do where it is allowed how the test ended, and the row has every tag that is
+/// Whether the rules keep the test of the row. They do where it is allowed how the test ended, and it has every tag that is
 /// asked for and none that is not wanted. In its id one of the patterns that are asked for must be found, where there
-/// are any, and none of the others. For many rows `ByRules` is quicker.
+/// are any, and none of the others. For many tests `ByRules` is quicker.
 pub fn keeps_row(alloc: Global, rules: &Rules, row: &Row) -> Result<bool, NoMemory>
     ensures { IfOk result (λ kept. kept ≡ keeping.keeps rules.now row.now) }
 {
     let mut predicate = ByRules::new(alloc, rules)?;
-    predicate.is_kept(row)
+    predicate.is_kept(&row.id, row.ended, &row.tags)
 }

@@ -50,7 +50,7 @@ impl<'a, P: Predicate + Drop> Sift<'a, P> {
         }
     }
 
-    // Whether the part's row is kept, by the predicate.
+    // Whether the row's test is kept, by the predicate.
     fn is_kept(&mut self, row: &Row) -> Result<bool, NoMemory>
         requires faithful { P.rules (predicate_of self.old) ≡ rules_of self.old }
         ensures kept { IfOk result (λ kept. kept ≡ keeps (rules_of self.old) row.now) }
@@ -58,7 +58,7 @@ impl<'a, P: Predicate + Drop> Sift<'a, P> {
         ensures rules { rules_of self.new ≡ rules_of self.old }
         ensures predicate { P.rules (predicate_of self.new) ≡ P.rules (predicate_of self.old) }
     {
-        self.predicate.is_kept(row)
+        self.predicate.is_kept(&row.id, row.ended, &row.tags)
     }
 
     // The events of the part of the test that ended so at this instant, where its row is kept, else none.
