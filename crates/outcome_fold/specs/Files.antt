@@ -1,5 +1,5 @@
 -- The files of text of a part of a test, and the text that shows them (docs/FORMATS.md, "The text of a row").
-use Rattle.std.specs.Prelude.{ℕ, Bool, not, ◌||◌, Option, Some, None, List, [], ◌∷◌, ◌++◌, map, take, length, codes, is_some, nat_eq, ◌==◌, if◌then◌else◌}
+use Rattle.std.specs.Prelude.{ℕ, Bool, not, ◌||◌, Option, Some, None, List, [], ◌∷◌, ◌++◌, map, take, length, codes, is_some, ◌==◌, if◌then◌else◌}
 use Rattle.std.specs.List.{filter, flat_map, list_all}
 use Rattle.std.specs.Option.{option_map, unwrap_or}
 use Rattle.std.specs.Str.{bytes_eq}
