@@ -13,18 +13,20 @@ use Rattle.std.proofs.lemmas.List.Elements.{All-nil, All-cons, All-head, All-tai
 use Rattle.outcome_fold.specs.declared.row.Row.{Row}
 use Rattle.outcome_fold.specs.Order.{text_cmp}
 use Rattle.outcome_fold.specs.Answers.{times_of}
+use Rattle.outcome_fold.specs.Longest.{AreSorted, last_of_each}
 use Rattle.outcome_fold.proofs.OrderLemmas.{texts_total, exact_texts}
 use Rattle.outcome_fold.proofs.TableLemmas.{entries_in_order}
+use Rattle.outcome_fold.proofs.StrictLemmas.{Timed, Above, Strict, less_is, turned, strict_keys}
 use Rattle.run_shelf.specs.IdFiles.{Lacks, IsCutAtMark}
 use Rattle.run_ledger.specs.Caches.{time_entry, IsTimed}
 use Rattle.run_ledger.specs.Cuts.{AreTimeEntries}
 use Rattle.run_ledger.specs.Ledger.{replaced}
-use Rattle.run_ledger.specs.Merging.{AreEntriesOfTimes, BeginsWithEntry, timed_of, AreSorted, last_of_each, below, not_below, past, merged}
+use Rattle.run_ledger.specs.Merging.{AreEntriesOfTimes, BeginsWithEntry, timed_of, below, not_below, past, merged}
 use Rattle.run_ledger.proofs.EntryLemmas.{from_own}
 use Rattle.run_ledger.proofs.FormLemmas.{cut_same, has_mark, decimal_digits, no_zero}
 use Rattle.run_ledger.proofs.TimedLemmas.{one_time, keys_sorted}
 use Rattle.run_ledger.proofs.ReplaceLemmas.{latest_is}
-use Rattle.run_ledger.proofs.StrictLemmas.{Timed, Above, Under, Strict, less_is, equal_is, greater_is, turned, above_more, under_more, not_above, not_under, or_else, find_join, strict_keys, keys_strict, joined_strict}
+use Rattle.run_ledger.proofs.StrictLemmas.{Under, equal_is, greater_is, above_more, under_more, not_above, not_under, or_else, find_join, keys_strict, joined_strict}
 use Rattle.run_ledger.proofs.LongestLemmas.{longest_strict, longest_are}
 
 -- ---- where an id parts entries

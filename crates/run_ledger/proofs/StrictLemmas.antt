@@ -3,35 +3,19 @@ use Rattle.std.proofs.Common.{◌≡◌, ℕ, true, false, true≢false, cond, L
 use Rattle.std.specs.List.{All, AllByRecursion}
 use Rattle.std.specs.List.Sorted.{IsStrictlySortedBy}
 use Rattle.std.specs.Ordering.{is_lt, is_eq, ordering_reverse, eq_by_cmp}
-use Rattle.std.specs.Cmp.{tied_itself}
 use Rattle.std.specs.FinMap.{find}
 use Rattle.std.specs.declared.cmp.Ordering.{Ordering}
 use Rattle.std.specs.declared.cmp.Ordering.TheVariants.{Less, Equal, Greater}
-use Rattle.std.proofs.lemmas.List.Elements.{All-nil, All-cons, All-head, All-tail, All-append, All-weaker, All-map, recursion_from_All}
+use Rattle.std.proofs.lemmas.List.Elements.{All-nil, All-cons, All-head, All-tail, All-append, All-weaker}
 use Rattle.outcome_fold.specs.Order.{text_cmp}
 use Rattle.outcome_fold.proofs.OrderLemmas.{texts_total}
+use Rattle.outcome_fold.proofs.StrictLemmas.{Timed, Above, Strict}
 
-abbrev pub Timed : Type 0
-Timed = List ℕ × ℕ
-
--- each id is above this one, or below it
-abbrev pub Above : List ℕ → List Timed → Type 0
-Above id es = All (λ e. text_cmp id e.0 ≡ Less) es
-
+-- each id is below this one
 abbrev pub Under : List Timed → List ℕ → Type 0
 Under es id = All (λ e. text_cmp e.0 id ≡ Less) es
 
--- each id is below those behind it
-abbrev pub Strict : List Timed → Type 0
-Strict [] = Unit {0}
-Strict (e ∷ es) = Above e.0 es × Strict es
-
 -- ---- the order of two ids
-
-pub less_is : (o : Ordering) → is_lt o ≡ true → o ≡ Less
-less_is Less is = refl
-less_is Equal is = absurd (true≢false (sym is))
-less_is Greater is = absurd (true≢false (sym is))
 
 pub equal_is : (o : Ordering) → is_eq o ≡ true → o ≡ Equal
 equal_is Less is = absurd (true≢false (sym is))
@@ -44,15 +28,8 @@ greater_is Less below equal = absurd (true≢false below)
 greater_is Equal below equal = absurd (true≢false equal)
 greater_is Greater below equal = refl
 
-pub turned : (a b : List ℕ) → text_cmp a b ≡ Greater → text_cmp b a ≡ Less
-turned a b is = texts_total.antisymm b a ∙ ap ordering_reverse is
-
 pub turned_less : (a b : List ℕ) → text_cmp a b ≡ Less → text_cmp b a ≡ Greater
 turned_less a b is = texts_total.antisymm b a ∙ ap ordering_reverse is
-
--- one that is below another is not that
-pub apart : (a b : List ℕ) → text_cmp a b ≡ Less → a ≡ b → ⊥
-apart a b less same = true≢false (sym (ap is_lt less) ∙ ap is_lt (ap (text_cmp a) (sym same) ∙ tied_itself texts_total a))
 
 pub above_more : (a b : List ℕ) (es : List Timed) → text_cmp a b ≡ Less → Above b es → Above a es
 above_more a b es less above = All-weaker (λ e. text_cmp b e.0 ≡ Less) (λ e. text_cmp a e.0 ≡ Less) (λ e is. texts_total.trans a b e.0 less is) es above
@@ -82,11 +59,6 @@ find_join (x ∷ xs) ys q =
     elim (eq_by_cmp text_cmp q x.0) as (λ b. cond b (Some x.1) (find text_cmp q (xs ++ ys)) ≡ or_else (cond b (Some x.1) (find text_cmp q xs)) (find text_cmp q ys)) [ true ↦ refl | false ↦ find_join xs ys q ]
 
 -- ---- the same of the ids alone
-
-pub strict_keys : (es : List Timed) → Strict es → IsStrictlySortedBy text_cmp (map (λ e. e.0) es)
-unfolding IsStrictlySortedBy
-strict_keys [] strict = tt
-strict_keys (e ∷ es) strict = (recursion_from_All (λ k. text_cmp e.0 k ≡ Less) (map (λ e. e.0) es) (All-map (λ k. text_cmp e.0 k ≡ Less) (λ e. e.0) es strict.0), strict_keys es strict.1)
 
 pub keys_strict : (es : List Timed) → IsStrictlySortedBy text_cmp (map (λ e. e.0) es) → Strict es
 unfolding IsStrictlySortedBy

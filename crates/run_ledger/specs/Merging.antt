@@ -1,13 +1,11 @@
 -- Times as the bytes of a cache's entries, and the times of one run merged into them (docs/FORMATS.md, "Caches").
-use Rattle.std.specs.Prelude.{◌≡◌, ℕ, Bool, true, List, [], ◌∷◌, ◌++◌, map, All, if◌then◌else◌}
+use Rattle.std.specs.Prelude.{◌≡◌, ℕ, List, [], ◌∷◌, ◌++◌, map, All, if◌then◌else◌}
 use Rattle.std.specs.FinMap as fin
 use Rattle.std.specs.FinMap.{FinMap}
 use Rattle.std.specs.List.{flat_map}
-use Rattle.std.specs.List.Sorted.{IsPermutation, IsSorted}
 use Rattle.std.specs.Option.{unwrap_or}
-use Rattle.std.specs.Ordering.{is_lt, is_eq, nat_cmp, ordering_then}
+use Rattle.std.specs.Ordering.{is_lt, is_eq}
 use Rattle.std.specs.Str.Parse.{digits_value}
-use Rattle.std.specs.declared.cmp.Ordering.{Ordering}
 use Rattle.outcome_fold.specs.declared.row.Row.{Row}
 use Rattle.outcome_fold.specs.Order.{text_cmp}
 use Rattle.outcome_fold.specs.Answers.{timed_rows}
@@ -34,28 +32,9 @@ abbrev pub BeginsWithEntry : (id behind : List ℕ) → List (List ℕ × ℕ) �
 BeginsWithEntry id behind [] = ⊥
 BeginsWithEntry id behind (one ∷ more) = (one.0 ≡ id) × AreEntriesOfTimes behind more
 
--- by id, and then by time
-abbrev pub timed_cmp : List ℕ × ℕ → List ℕ × ℕ → Ordering
-timed_cmp a b = ordering_then (text_cmp a.0 b.0) (nat_cmp a.1 b.1)
-
 -- the ids of the rows of tests that ran and have a time, each with it, in the order of the rows
 abbrev pub timed_of : List Row → List (List ℕ × ℕ)
 timed_of rows = map (λ row. (row.id, unwrap_or row.nanos 0)) (timed_rows rows)
-
--- the same by id, and then by time
-pub record AreSorted (timed sorted : List (List ℕ × ℕ)) : Type 0 where
-  pub moved : IsPermutation timed sorted
-  pub ordered : IsSorted timed_cmp sorted
-
--- whether those behind begin with a greater id, or there are none
-abbrev pub ends_before : List ℕ × ℕ → List (List ℕ × ℕ) → Bool
-ends_before one [] = true
-ends_before one (next ∷ more) = is_lt (text_cmp one.0 next.0)
-
--- of those of one id, which stand one after another, the last
-abbrev pub last_of_each : List (List ℕ × ℕ) → List (List ℕ × ℕ)
-last_of_each [] = []
-last_of_each (one ∷ more) = if ends_before one more then one ∷ last_of_each more else last_of_each more
 
 -- the first entries whose ids are below this one
 abbrev pub below : List ℕ → List (List ℕ × ℕ) → List (List ℕ × ℕ)

@@ -3,10 +3,11 @@
 ghost use Rattle.std.specs.Prelude.{◌≡◌, ◌++◌, ℕ, List, map, All, IfSome, IfOk, OnOk, None, if◌then◌else◌};
 ghost use Rattle.outcome_fold.specs.Answers.{is_run as has_run};
 ghost use Rattle.run_ledger.specs.Caches.{IsTimed};
+ghost use Rattle.outcome_fold.specs.Longest.{AreSorted, last_of_each};
 ghost use Rattle.outcome_fold.specs.Summed.{shown_time};
-ghost use Rattle.run_ledger.specs.Merging.{timed_of, AreSorted, ends_before, last_of_each};
+ghost use Rattle.run_ledger.specs.Merging.{timed_of};
 
-use outcome_fold::{Ended, Row, Timed};
+use outcome_fold::{Ended, Row, Timed, keep_longest};
 use std::alloc::Global;
 use sub_number::{NoMemory, Text};
 
@@ -61,30 +62,5 @@ fn run_time(row: &Row) -> Option<u64>
         None
     } else {
         row.nanos
-    }
-}
-
-// Of those of one id, which stand one after another, the last, which is the longest.
-fn keep_longest<'r>(alloc: Global, sorted: &[Timed<'r>]) -> Result<Vec<Timed<'r>>, NoMemory>
-    ensures times { IfOk result (λ times. map shown_time times.items ≡ last_of_each (map shown_time sorted.now)) }
-    ensures timed { All IsTimed (map shown_time sorted.now) → IfOk result (λ times. All IsTimed (map shown_time times.items)) }
-{
-    let mut longest = Vec::new(alloc);
-    for place in 0..sorted.len() {
-        let timed = sorted[place];
-        if is_last(&timed, &sorted[place + 1..]) {
-            longest.push(timed)?;
-        }
-    }
-    Ok(longest)
-}
-
-// Whether none of the same id stands behind it.
-fn is_last(timed: &Timed<'_>, behind: &[Timed<'_>]) -> bool
-    ensures { result ≡ ends_before (shown_time timed.now) (map shown_time behind.now) }
-{
-    match behind.first() {
-        Some(next) => timed.id.cmp(next.id).is_lt(),
-        None => true,
     }
 }

@@ -1,5 +1,6 @@
 use Rattle.outcome_fold.specs.Summed.{shown_time}
-use Rattle.run_ledger.proofs.LongestLemmas.{sorted_shown, moved_timed}
+use Rattle.outcome_fold.proofs.LastsLemmas.{sorted_shown}
+use Rattle.run_ledger.proofs.LongestLemmas.{moved_timed}
 use Rattle.run_ledger.proofs.longest_times.sorted_times.Goals as goal
 
 pub returns-clause-sorted : goal.returns-clause-sorted
