@@ -6,7 +6,6 @@ ghost use Rattle.std.specs.Option.{option_map, option_to_list};
 ghost use Rattle.outcome_fold.specs.Answers.{row_fails};
 ghost use Rattle.outcome_fold.specs.EndedParts.{row_of_part};
 ghost use Rattle.outcome_fold.specs.declared.row.Row.{Row as ARow};
-ghost use Rattle.sub_text.specs.Listed.{time_shown};
 ghost use Rattle.filter_cli.specs.Ls.{shown_line};
 
 use crate::loose_output::{put_foreign, put_loose};
@@ -15,7 +14,7 @@ use outcome_fold::{Ended, EndedPart, Fold, Row, elapsed};
 use packet_codec::Packet;
 use std::alloc::Global;
 use sub_number::{NoMemory, Text};
-use sub_text::seconds_text;
+use sub_text::ls_line;
 
 /// What is listed.
 #[derive(Clone, Copy, Debug, PartialEq, Eq)]
@@ -89,20 +88,6 @@ impl NoteFilter for Ls {
     fn let_go(self) {}
 }
 
-// The time behind an id, where times are asked for and it has one.
-fn put_time(nanos: Option<u64>, times: bool, text: &mut Vec<u8>) -> Result<(), NoMemory>
-    ensures { OnOk result (text.new.items ≡ text.old.items ++ time_shown nanos times) }
-{
-    let Some(nanos) = nanos else {
-        return Ok(());
-    };
-    if times {
-        text.push(b' ')?;
-        seconds_text(u128::from(nanos), text)?;
-    }
-    Ok(())
-}
-
 // The line of a row of this id, which ended so and took so long.
 #[inline(always)]
 fn put_line(
@@ -115,9 +100,7 @@ fn put_line(
     ensures { (row : ARow) → row.id ≡ id.now → row.ended ≡ ended → row.nanos ≡ nanos → OnOk result (text.new.items ≡ text.old.items ++ shown_line listing row) }
 {
     if ended != Ended::Exists || listing.exists {
-        text.extend_from_slice(id.bytes())?;
-        put_time(nanos, listing.times, text)?;
-        text.push(b'\n')?;
+        ls_line(id, nanos, listing.times, text)?;
     }
     Ok(())
 }

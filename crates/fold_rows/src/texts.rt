@@ -77,7 +77,7 @@ pub fn answer_slowest(alloc: Global, all: bool, lines: &[&str], out: &mut Vec<u8
 pub fn answer_listing(alloc: Global, times: bool, lines: &[&str], out: &mut Vec<u8>) -> Option<()> {
     for line in lines {
         let row = row_of(alloc, line)?;
-        ls_line(&row, times, out).ok()?;
+        ls_line(&row.id, row.nanos, times, out).ok()?;
     }
     Some(())
 }

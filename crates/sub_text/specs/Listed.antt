@@ -13,9 +13,13 @@ abbrev pub time_shown : Option ℕ → Bool → List ℕ
 time_shown None times = []
 time_shown (Some nanos) times = if times then 32 ∷ [] ++ printed_seconds nanos else []
 
+-- the line of a test: this id, and its time where it is asked for and the test has one
+abbrev pub listed_line : List ℕ → Option ℕ → Bool → List ℕ
+listed_line id nanos times = id ++ time_shown nanos times ++ newline
+
 -- the line of a row: its id, and its time where it is asked for
 abbrev pub ls_line_of : Row → Bool → List ℕ
-ls_line_of row times = row.id ++ time_shown row.nanos times ++ newline
+ls_line_of row times = listed_line row.id row.nanos times
 
 -- the number with blanks before it, so that it fills five places
 abbrev pub in_five_places : ℕ → List ℕ

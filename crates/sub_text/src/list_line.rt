@@ -1,11 +1,10 @@
 //! A test as a line of a list.
 
 ghost use Rattle.std.specs.Prelude.{◌≡◌, ◌++◌, take, length, OnOk, OnErr};
-ghost use Rattle.sub_text.specs.Listed.{time_shown, ls_line_of};
+ghost use Rattle.sub_text.specs.Listed.{listed_line, time_shown};
 
 use crate::seconds::seconds_text;
-use outcome_fold::Row;
-use sub_number::NoMemory;
+use sub_number::{NoMemory, Text};
 
 // The time behind an id, where times are asked for and it has one.
 fn write_time(nanos: Option<u64>, times: bool, out: &mut Vec<u8>) -> Result<(), NoMemory>
@@ -22,24 +21,29 @@ fn write_time(nanos: Option<u64>, times: bool, out: &mut Vec<u8>) -> Result<(), 
     Ok(())
 }
 
-fn write_line(row: &Row, times: bool, out: &mut Vec<u8>) -> Result<(), NoMemory>
-    ensures ok { OnOk result (out.new.items ≡ out.old.items ++ ls_line_of row.now times) }
+fn write_line(id: &Text, nanos: Option<u64>, times: bool, out: &mut Vec<u8>) -> Result<(), NoMemory>
+    ensures ok { OnOk result (out.new.items ≡ out.old.items ++ listed_line id.now nanos times) }
     ensures front { take (length out.old.items) out.new.items ≡ out.old.items }
 {
-    out.extend_from_slice(row.id.bytes())?;
-    write_time(row.nanos, times, out)?;
+    out.extend_from_slice(id.bytes())?;
+    write_time(nanos, times, out)?;
     out.push(b'\n')?;
     Ok(())
 }
 
-/// Appends the row's id and a newline. With `times`, a space and the row's time in seconds stand between them, where it
-/// has one.
-pub fn ls_line(row: &Row, times: bool, out: &mut Vec<u8>) -> Result<(), NoMemory>
-    ensures ok { OnOk result (out.new.items ≡ out.old.items ++ ls_line_of row.now times) }
+/// Appends the id of a test and a newline. With `times`, a space and the time in seconds stand between them, where there
+/// is one. It is given in nanoseconds.
+pub fn ls_line(
+    id: &Text,
+    nanos: Option<u64>,
+    times: bool,
+    out: &mut Vec<u8>,
+) -> Result<(), NoMemory>
+    ensures ok { OnOk result (out.new.items ≡ out.old.items ++ listed_line id.now nanos times) }
     ensures err { OnErr result (out.new.items ≡ out.old.items) }
 {
     let before = out.len();
-    let Ok(()) = write_line(row, times, out) else {
+    let Ok(()) = write_line(id, nanos, times, out) else {
         out.truncate(before);
         return Err(NoMemory);
     };
