@@ -1,6 +1,6 @@
 -- The lines that are printed of a run while it goes on (docs/COMMANDS.md, "Live lines").
-use Rattle.std.specs.Prelude.{ℕ, ◌+◌, ◌%◌, Option, None, Some, List, [], ◌∷◌, ◌++◌, length, codes, nat_eq, if◌then◌else◌, ◌==◌}
-use Rattle.std.specs.List.{filter, flat_map, ends_with}
+use Rattle.std.specs.Prelude.{ℕ, ◌+◌, ◌%◌, Option, None, Some, List, [], ◌∷◌, ◌++◌, length, codes, if◌then◌else◌, ◌==◌}
+use Rattle.std.specs.List.{filter, flat_map}
 use Rattle.bstr.specs.Text.{lines_of}
 use Rattle.packet_codec.specs.Lanes.{lane_name}
 use Rattle.packet_codec.specs.declared.event.Event.{Event}

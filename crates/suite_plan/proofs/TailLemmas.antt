@@ -1,9 +1,9 @@
 -- The last bytes of a text, which comes piece by piece.
 use Rattle.std.proofs.Common.{◌≡◌, ℕ, ◌+◌, ◌-◌, ◌<◌, ◌≤◌, ◌⊎◌, inl, inr, Bool, true, false, List, [], ◌++◌, length, take, drop, Result, IfOk, Ok, Err, arith, nat_le, nat_eq, refl, sym, ap, ◌∙◌, length-append, length-drop}
-use Rattle.std.specs.Prelude.{codes, ◌==◌, if◌then◌else◌}
+use Rattle.std.specs.Prelude.{codes, ◌==◌}
 use Rattle.std.specs.Cmp.Lexicographic.{pointwise}
 use Rattle.std.specs.List.{ends_with, copy_within}
-use Rattle.std.proofs.lemmas.List.{append_assoc, append_cancel_left, take-append-drop, length-take}
+use Rattle.std.proofs.lemmas.List.{append_assoc, take-append-drop, length-take}
 use Rattle.std.proofs.lemmas.Bool.Decides.{nat_tests}
 use Rattle.std.proofs.Math.Seq.{drop-append-add}
 use Rattle.stream_reader.proofs.BufferLemmas.{moved_is}

@@ -1,4 +1,4 @@
-use Rattle.std.proofs.Common.{◌≡◌, ◌++◌, ℕ, List, OnOk, subst}
+use Rattle.std.proofs.Common.{◌≡◌, ℕ, List, OnOk, subst}
 use Rattle.outcome_fold.specs.Lines.{line_end}
 use Rattle.suite_plan.specs.Tails.{IsTailOf}
 use Rattle.suite_plan.proofs.TailLemmas.{line_ended}
